@@ -1,2 +1,5 @@
 pub mod Evaluate
 pub mod Cases
+pub mod Laws
+pub mod Order
+pub mod TwoRuns

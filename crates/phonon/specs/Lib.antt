@@ -14,3 +14,4 @@ pub mod Limits
 pub mod Refusal
 pub mod Doors
 pub mod KeyCases
+pub mod Demand3
