@@ -3,3 +3,4 @@ pub mod Cases
 pub mod Laws
 pub mod Order
 pub mod TwoRuns
+pub mod ClosedCases

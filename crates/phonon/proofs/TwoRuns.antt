@@ -84,7 +84,10 @@ module _ (x y : Triplet) (n : Narrowed x y) where
   unfolding reciprocals
   reciprocals-same = λ i. table (orderCount (n .symmetry i)) (λ o.
       reciprocal (n .measures i .atoms) (n .measures i .supercell) (n .anchoring i) (n .crystal i) (exchanged o (record {
-        leg0 = qAt (n .grid i) (index (int (n .points i) 0)); leg1 = qAt (n .grid i) (index (int (n .points i) 1)); leg2 = qAt (n .grid i) (index (int (n .points i) 2)) })))
+        leg0 = qAt (n .grid i) (index (int (n .points i) 0));
+        leg1 = qAt (n .grid i) (index (int (n .points i) 1));
+        leg2 = qAt (n .grid i) (index (int (n .points i) 2));
+      })))
 
   inverse-same : inverseRoots (x .tables .measures .atoms) (x .tables .crystal .masses) ≡ inverseRoots (y .tables .measures .atoms) (y .tables .crystal .masses)
   inverse-same = λ i. inverseRoots (n .measures i .atoms) (n .crystal i .masses)

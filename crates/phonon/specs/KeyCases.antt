@@ -54,15 +54,17 @@ module _ (cutoff : Float) (anchoring : Anchoring) (symmetry : Symmetry) (shortes
       settings = record { anchoring = anchoring; cutoff = cutoff };
       symmetry = symmetry;
       crystal = record {
-        form = Compact;
         vectors = f0 ∷ f0 ∷ f0 ∷ [];
         multiplicity = count ∷ pos 0 ∷ [];
-        p2s = pos 0 ∷ [];
-        s2p = pos 0 ∷ [];
         masses = f4 ∷ [];
-        shortest = shortest ∷ [];
-        nonzero = nonzero ∷ [];
-        constants = replicate 5 f0 ++ constant ∷ replicate 21 f0;
+        forces = record {
+          form = Compact;
+          p2s = pos 0 ∷ [];
+          s2p = pos 0 ∷ [];
+          shortest = shortest ∷ [];
+          nonzero = nonzero ∷ [];
+          constants = replicate 5 f0 ++ constant ∷ replicate 21 f0;
+        };
       };
       grid = record {
         mesh = pos 1 ∷ pos 1 ∷ pos 1 ∷ [];

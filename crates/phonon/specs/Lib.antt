@@ -15,3 +15,4 @@ pub mod Refusal
 pub mod Doors
 pub mod KeyCases
 pub mod Demand3
+pub mod ClosedCases

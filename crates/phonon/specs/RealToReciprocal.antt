@@ -16,7 +16,7 @@ use Rattle.phonon.specs.declared.Leg.the-variants.{Alone, First, Second,
 use Rattle.phonon.specs.Number.{_⊕_, _⊗_, _⊘_, bits, f0, f1, f2, f3, float, index, at, int, flagged, fold, table}
 use Rattle.phonon.specs.Common.{czero, cadd, cmul, scale, cat, ctable}
 use Rattle.phonon.specs.Trig.{sinCos}
-use Rattle.phonon.specs.Sets.{Crystal, Grid, Legs}
+use Rattle.phonon.specs.Sets.{Forces, Crystal, Grid, Legs}
 
 abbrev pub pi : Float
 pi = bits 0x400921FB54442D18
@@ -55,12 +55,12 @@ phaseFactor q vectors count start =
     scale (fold (index count) czero (λ i s. cadd s (cis (phase q vectors (index start + i))))) (f1 ⊘ float count)
 
 -- entry i * S + j, for atom i and supercell atom j, which reads entry j * P + i of the multiplicities
-unfoldable pub phaseFactorEntry : ℕ → ℕ → Crystal → List Float → ℕ → Complex
-phaseFactorEntry P S c q n =
-    phaseFactor q (c .vectors) (int (c .multiplicity) (2 * (n % S * P + n / S))) (int (c .multiplicity) (2 * (n % S * P + n / S) + 1))
+unfoldable pub phaseFactorEntry : ℕ → ℕ → List Float → List ℤ → List Float → ℕ → Complex
+phaseFactorEntry P S vectors multiplicity q n =
+    phaseFactor q vectors (int multiplicity (2 * (n % S * P + n / S))) (int multiplicity (2 * (n % S * P + n / S) + 1))
 
-unfoldable pub phaseFactors : ℕ → ℕ → Crystal → List Float → List Float
-phaseFactors P S c q = ctable (P * S) (phaseFactorEntry P S c q)
+unfoldable pub phaseFactors : ℕ → ℕ → List Float → List ℤ → List Float → List Float
+phaseFactors P S vectors multiplicity q = ctable (P * S) (phaseFactorEntry P S vectors multiplicity q)
 
 -- ---- get_pre_phase_factor
 
@@ -70,14 +70,14 @@ prePhase vectors q v =
     fold 3 f0 (λ j s. s ⊕ at vectors (3 * v + j) ⊗ (at (q .leg0) j ⊕ at (q .leg1) j ⊕ at (q .leg2) j)) ⊗ (f2 ⊗ pi)
 
 -- the first vector of entry p2s[i] * P of the multiplicities
-unfoldable pub anchorVector : ℕ → Crystal → ℕ → ℕ
-anchorVector P c i = index (int (c .multiplicity) (2 * (index (int (c .p2s) i) * P) + 1))
+unfoldable pub anchorVector : ℕ → List ℤ → List ℤ → ℕ → ℕ
+anchorVector P multiplicity p2s i = index (int multiplicity (2 * (index (int p2s i) * P) + 1))
 
-unfoldable pub preFactorEntry : ℕ → Crystal → Legs (List Float) → ℕ → Complex
-preFactorEntry P c q i = cis (prePhase (c .vectors) q (anchorVector P c i))
+unfoldable pub preFactorEntry : ℕ → List Float → List ℤ → List ℤ → Legs (List Float) → ℕ → Complex
+preFactorEntry P vectors multiplicity p2s q i = cis (prePhase vectors q (anchorVector P multiplicity p2s i))
 
-unfoldable pub preFactors : ℕ → Crystal → Legs (List Float) → List Float
-preFactors P c q = ctable P (preFactorEntry P c q)
+unfoldable pub preFactors : ℕ → List Float → List ℤ → List ℤ → Legs (List Float) → List Float
+preFactors P vectors multiplicity p2s q = ctable P (preFactorEntry P vectors multiplicity p2s q)
 
 -- ---- real_to_reciprocal_elements
 
@@ -110,7 +110,7 @@ unfoldable pub term : Leg → Bool → Complex → Float → Complex
 term g s p x = scale (scale p (factor g s)) x
 
 -- The sum for atoms i, a, b. p and r are the phase factors of the legs of the second and the third atom.
-module _ (S : ℕ) (c : Crystal) (g : Leg) (p r : ℕ → Complex) (i a b : ℕ) where
+module _ (S : ℕ) (c : Forces) (g : Leg) (p r : ℕ → Complex) (i a b : ℕ) where
   -- the pair of supercell atoms (j, k) has a part in the sum
   unfoldable pub pairTaken : ℕ → ℕ → Bool
   pairTaken j k =
@@ -137,7 +137,7 @@ pub record Factors : Type 0 where
 unfoldable pub over3 : Complex → Complex
 over3 a = record { re = a .re ⊘ f3; im = a .im ⊘ f3 }
 
-module _ (S : ℕ) (c : Crystal) (w : Factors) (i j k l m n : ℕ) where
+module _ (S : ℕ) (c : Forces) (w : Factors) (i j k l m n : ℕ) where
   unfoldable pub plainElement : Complex
   plainElement = cmul (element S c Alone (w .legs .leg1) (w .legs .leg2) i j k (l * 9 + m * 3 + n)) (w .pre i)
 
@@ -155,12 +155,12 @@ module _ (S : ℕ) (c : Crystal) (w : Factors) (i j k l m n : ℕ) where
 -- ---- real_to_reciprocal
 
 -- entry ((i * P + j) * P + k) * 27 + (l * 9 + m * 3 + n)
-unfoldable pub reciprocalEntry : ℕ → ℕ → Anchoring → Crystal → Factors → ℕ → Complex
+unfoldable pub reciprocalEntry : ℕ → ℕ → Anchoring → Forces → Factors → ℕ → Complex
 reciprocalEntry P S a c w t =
     anchored S c w (t / 27 / P / P) (t / 27 / P % P) (t / 27 % P) (t % 27 / 9) (t % 27 % 9 / 3) (t % 27 % 3) a
 
 -- from the tables of pre-factors and of the three legs' phase factors
-unfoldable pub reciprocalFrom : ℕ → ℕ → Anchoring → Crystal → List Float → Legs (List Float) → List Float
+unfoldable pub reciprocalFrom : ℕ → ℕ → Anchoring → Forces → List Float → Legs (List Float) → List Float
 reciprocalFrom P S a c pre legs =
     ctable (P * P * P * 27)
     (reciprocalEntry P S a c (record { pre = cat pre; legs = record { leg0 = cat (legs .leg0); leg1 = cat (legs .leg1); leg2 = cat (legs .leg2) } }))
@@ -168,5 +168,9 @@ reciprocalFrom P S a c pre legs =
 -- from the three legs' q
 unfoldable pub reciprocal : ℕ → ℕ → Anchoring → Crystal → Legs (List Float) → List Float
 reciprocal P S a c q =
-    reciprocalFrom P S a c (preFactors P c q)
-    (record { leg0 = phaseFactors P S c (q .leg0); leg1 = phaseFactors P S c (q .leg1); leg2 = phaseFactors P S c (q .leg2) })
+    reciprocalFrom P S a (c .forces) (preFactors P (c .vectors) (c .multiplicity) (c .forces .p2s) q)
+    (record {
+      leg0 = phaseFactors P S (c .vectors) (c .multiplicity) (q .leg0);
+      leg1 = phaseFactors P S (c .vectors) (c .multiplicity) (q .leg1);
+      leg2 = phaseFactors P S (c .vectors) (c .multiplicity) (q .leg2);
+    })

@@ -40,9 +40,12 @@ phononAt B inv p g n = record { frequency = at (p .frequencies) (g * B + n); col
 abbrev pub place : ℕ → ℕ → ℕ → ℕ → ℕ
 place P al bm cn = ((al / 3 * P + bm / 3) * P + cn / 3) * 27 + al % 3 * 9 + bm % 3 * 3 + cn % 3
 
--- a first-leg entry that is zero in both parts is passed
+-- s and x times e, a first-leg entry, which is passed if zero in both parts
+unfoldable pub addUnlessZero : Complex → Complex → Complex → Complex
+addUnlessZero e x s = cond (isZero e) s (cadd s (cmul x e))
+
 unfoldable pub contractTurn : ℕ → (ℕ → Complex) → (ℕ → Complex) → ℕ → ℕ → ℕ → Complex → Complex
-contractTurn P x e bm cn al s = cond (isZero (e al)) s (cadd s (cmul (x (place P al bm cn)) (e al)))
+contractTurn P x e bm cn al s = addUnlessZero (e al) (x (place P al bm cn)) s
 
 -- entry bm * B + cn
 unfoldable pub contractEntry : ℕ → (ℕ → Complex) → (ℕ → Complex) → ℕ → Complex

@@ -14,7 +14,7 @@ use Rattle.phonon.specs.declared.Sizes.{Sizes}
 use Rattle.phonon.specs.Number.{f0, index, at, int}
 use Rattle.phonon.specs.Trig.{inDomain}
 use Rattle.phonon.specs.Tests.{allTrue, everyBelow, finite, signBit, allFinite, within, allWithin, vectorRange}
-use Rattle.phonon.specs.Sets.{Crystal, Tables, bandsOf, Triplet, TripletSet, ListSet, TotalsSet, JoinedSet, ofTriplet, ofJoined, ofList, Legs}
+use Rattle.phonon.specs.Sets.{Tables, bandsOf, Triplet, TripletSet, ListSet, TotalsSet, JoinedSet, ofTriplet, ofJoined, ofList, Legs}
 use Rattle.phonon.specs.Limits.{atomsOk, supercellOk, firstOk, gridOk, vectorsOk, listOk, lowestAddress, highestAddress, lowestMesh, highestMesh, lowestMatrix, highestMatrix, weightOk, sizesOf, entriesOf}
 use Rattle.phonon.specs.RealToReciprocal.{phase, prePhase, anchorVector}
 use Rattle.phonon.specs.Interaction.{exchanged, orderCount, legQ}
@@ -35,15 +35,15 @@ tableLengths t z =
     eqb (length (t .grid .addresses)) (z .addresses)
     ∷ eqb (length (t .crystal .vectors)) (z .vectors)
     ∷ eqb (length (t .crystal .multiplicity)) (z .multiplicity)
-    ∷ eqb (length (t .crystal .p2s)) (t .measures .atoms)
-    ∷ eqb (length (t .crystal .s2p)) (t .measures .supercell)
+    ∷ eqb (length (t .crystal .forces .p2s)) (t .measures .atoms)
+    ∷ eqb (length (t .crystal .forces .s2p)) (t .measures .supercell)
     ∷ eqb (length (t .crystal .masses)) (t .measures .atoms)
     ∷ eqb (length (t .bands)) (t .measures .first)
     ∷ eqb (length (t .phonons .frequencies)) (z .frequencies)
     ∷ eqb (length (t .phonons .eigenvectors)) (z .eigenvectors)
-    ∷ eqb (length (t .crystal .shortest)) (z .shortest)
-    ∷ eqb (length (t .crystal .nonzero)) (z .nonzero)
-    ∷ eqb (length (t .crystal .constants)) (z .constants)
+    ∷ eqb (length (t .crystal .forces .shortest)) (z .shortest)
+    ∷ eqb (length (t .crystal .forces .nonzero)) (z .nonzero)
+    ∷ eqb (length (t .crystal .forces .constants)) (z .constants)
     ∷ []
 
 -- flags and strengths of so many slots, and the work buffer, by their lengths
@@ -51,7 +51,7 @@ unfoldable pub bufferLengths : ℕ → Sizes → ℕ → ℕ → ℕ → List Bo
 bufferLengths n z flags strengths work = eqb flags n ∷ eqb strengths n ∷ leb (z .work) work ∷ []
 
 abbrev pub sizes : Tables → Sizes
-sizes t = sizesOf (t .measures) (t .crystal .form)
+sizes t = sizesOf (t .measures) (t .crystal .forces .form)
 
 unfoldable pub tripletLengthsOk : TripletSet → Bool
 tripletLengthsOk s =
@@ -89,8 +89,8 @@ rangesOk vectors entries multiplicity = everyBelow (λ n. vectorRange vectors (i
 unfoldable pub tableIndicesOk : Tables → Bool
 tableIndicesOk t =
     allTrue
-    (allWithin (pos 0) (pos (t .measures .supercell - 1)) (t .crystal .p2s)
-    ∷ allWithin (pos 0) (pos (t .measures .supercell - 1)) (t .crystal .s2p)
+    (allWithin (pos 0) (pos (t .measures .supercell - 1)) (t .crystal .forces .p2s)
+    ∷ allWithin (pos 0) (pos (t .measures .supercell - 1)) (t .crystal .forces .s2p)
     ∷ allWithin (pos 0) (pos (bandsOf (t .measures) - 1)) (t .bands)
     ∷ rangesOk (t .measures .vectors) (t .measures .supercell * t .measures .atoms) (t .crystal .multiplicity)
     ∷ [])
@@ -108,7 +108,7 @@ tablesFinite t =
     ∷ allFinite (t .crystal .masses)
     ∷ allFinite (t .phonons .frequencies)
     ∷ allFinite (t .phonons .eigenvectors)
-    ∷ allFinite (t .crystal .constants)
+    ∷ allFinite (t .crystal .forces .constants)
     ∷ [])
 
 -- the temperature, the first and the second weights
@@ -154,7 +154,7 @@ legPhasesOk t q =
 -- of each atom, with the three q in one order
 unfoldable pub prePhasesOk : Tables → Legs (List Float) → Bool
 prePhasesOk t q =
-    everyBelow (λ i. inDomain (prePhase (t .crystal .vectors) q (anchorVector (t .measures .atoms) (t .crystal) i))) (t .measures .atoms)
+    everyBelow (λ i. inDomain (prePhase (t .crystal .vectors) q (anchorVector (t .measures .atoms) (t .crystal .multiplicity) (t .crystal .forces .p2s) i))) (t .measures .atoms)
 
 -- of the three legs, and of every order of the legs that is used
 unfoldable pub phasesOk : Triplet → Bool

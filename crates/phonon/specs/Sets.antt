@@ -13,23 +13,27 @@ use Rattle.phonon.specs.declared.Symmetry.{Symmetry}
 use Rattle.phonon.specs.declared.Weights.{Weights}
 use Rattle.phonon.specs.declared.Bath.{Bath}
 
--- what the force constants in reciprocal space and the masses are made from; R, the rows of the force constants, is P if compact and S if full
-pub record Crystal : Type 0 where
+-- the force constants; R, the number of their rows, is P if compact and S if full
+pub record Forces : Type 0 where
   pub form : Form
+  -- p2s_map and s2p_map
+  pub p2s : List ℤ
+  pub s2p : List ℤ
+  -- all_shortest, of atom i, supercell atoms j and k: entry (i * S + j) * S + k
+  pub shortest : List ℕ
+  -- nonzero_indices, of row i, supercell atoms j and k: the same
+  pub nonzero : List ℕ
+  -- element l * 9 + m * 3 + n of row i, supercell atoms j and k: entry ((i * S + j) * S + k) * 27 + (l * 9 + m * 3 + n)
+  pub constants : List Float
+
+-- the rest of what is known of the atoms
+pub record Crystal : Type 0 where
   -- vector v: entries 3 * v to 3 * v + 2
   pub vectors : List Float
   -- supercell atom j and atom i: the count is entry 2 * (j * P + i), the start the one behind it
   pub multiplicity : List ℤ
-  -- p2s_map and s2p_map
-  pub p2s : List ℤ
-  pub s2p : List ℤ
   pub masses : List Float
-  -- atom i, supercell atoms j and k: entry (i * S + j) * S + k
-  pub shortest : List ℕ
-  -- row i, supercell atoms j and k: the same
-  pub nonzero : List ℕ
-  -- element l * 9 + m * 3 + n of row i, supercell atoms j and k: entry ((i * S + j) * S + k) * 27 + (l * 9 + m * 3 + n)
-  pub constants : List Float
+  pub forces : Forces
 
 -- d_diag, q_mat by rows, and the grid points' addresses, three numbers each
 pub record Grid : Type 0 where
