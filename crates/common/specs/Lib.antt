@@ -1,0 +1,3 @@
+-- The words in which the contracts and the theorems of this crate speak beside the definitions.
+pub mod Nearest
+pub mod Rounded

@@ -1,0 +1,182 @@
+// funcs.rs: the occupation of a phonon. Beside it the exponential, the sine and the cosine, which the language lacks.
+use phonon::SinCos;
+ghost use mathlib.Core.Path.{_≡_};
+ghost use mathlib.Core.Bool.{false};
+ghost use mathlib.Core.List.{foldl};
+ghost use Prim.Native.Nat.{_≤_};
+ghost use lib.IntN.{pos};
+ghost use lib.ListN.{length};
+ghost use lib.Ieee.{fin};
+ghost use Rattle.phonon.specs.Number.{_⊖_, _⊗_, _⊘_, f1, float};
+ghost use Rattle.phonon.specs.Exp as Exp;
+ghost use Rattle.phonon.specs.Trig as Trig;
+ghost use Rattle.phonon.specs.Funcs.{boseEinstein};
+ghost use Rattle.funcs.specs.Floor.{Within};
+
+// n, for n = 18 down to 1.
+const EXP_DIVISORS: [f64; 18] = [
+    18.0,
+    17.0,
+    16.0,
+    15.0,
+    14.0,
+    13.0,
+    12.0,
+    11.0,
+    10.0,
+    9.0,
+    8.0,
+    7.0,
+    6.0,
+    5.0,
+    4.0,
+    3.0,
+    2.0,
+    1.0,
+];
+
+// 3FF71547652B82FE
+const LOG2_E: f64 = 1.4426950408889634;
+
+// 3FE62E42FEE00000
+const LN_2_HIGH: f64 = 0.6931471803691238;
+
+// 3DEA39EF35793C76
+const LN_2_LOW: f64 = 1.9082149292705877e-10;
+
+// p = 1, then p = 1 + p * (r / n) for n = 18 down to 1.
+fn exp_series(r: f64) -> f64
+    ensures { λ p. ⌜ p ≡ Exp.expSeries r ⌝ }
+{
+    let mut p = 1.0;
+    let mut i = 0usize;
+    while i < 18 {
+        p = 1.0 + p * (r / EXP_DIVISORS[i]);
+        i += 1;
+    }
+    p
+}
+
+// 2 ^ k, by its bit pattern.
+fn power_of_two(k: u64) -> f64
+    requires { ⌜ k ≤ 1023 ⌝ }
+    ensures { λ r. ⌜ r ≡ fin false 1 (pos k) ⌝ }
+{
+    f64::from_bits((k + 1023) * 0x10_0000_0000_0000)
+}
+
+// The exponential of x. Above 709 it is infinity; below 0, and of a NaN, it is a NaN.
+pub fn exp(x: f64) -> f64
+    ensures { λ r. ⌜ r ≡ Exp.exp x ⌝ }
+{
+    if x > 709.0 {
+        return 1.0 / 0.0;
+    }
+    if x >= 0.0 {
+        let k = std::num::truncating_f64_to_u64(x * LOG2_E);
+        let whole = std::num::nearest_u64_to_f64(k);
+        let r = (x - whole * LN_2_HIGH) - whole * LN_2_LOW;
+        return exp_series(r) * power_of_two(k);
+    }
+    0.0 / 0.0
+}
+
+// 2n * (2n + 1), for n = 9 down to 1.
+const SINE_DIVISORS: [f64; 9] = [342.0, 272.0, 210.0, 156.0, 110.0, 72.0, 42.0, 20.0, 6.0];
+
+// (2n - 1) * 2n, for n = 9 down to 1.
+const COSINE_DIVISORS: [f64; 9] = [306.0, 240.0, 182.0, 132.0, 90.0, 56.0, 30.0, 12.0, 2.0];
+
+// 3FE45F306DC9C883
+const TWO_OVER_PI: f64 = 0.6366197723675814;
+
+// 3FF921FB54400000
+const HALF_PI_HIGH: f64 = 1.5707963267341256;
+
+// 3DD0B4611A600000
+const HALF_PI_MIDDLE: f64 = 6.077100506303966e-11;
+
+// 3BA3198A2E037073
+const HALF_PI_LOW: f64 = 2.0222662487959506e-21;
+
+// p = 1, then p = 1 - p * (z / d) for each divisor d in turn.
+fn alternating_series(z: f64, divisors: &[f64; 9]) -> f64
+    requires { ⌜ length (now divisors) ≡ 9 ⌝ }
+    ensures { λ p. ⌜ p ≡ foldl (λ p d. f1 ⊖ p ⊗ (z ⊘ d)) f1 (now (divisors .entry)) ⌝ }
+{
+    let mut p = 1.0;
+    let mut i = 0usize;
+    while i < 9 {
+        p = 1.0 - p * (z / divisors[i]);
+        i += 1;
+    }
+    p
+}
+
+// The greatest whole number not above y, as a float, and that number mod 4.
+struct Floored {
+    whole: f64,
+    quadrant: u64,
+}
+
+fn floor_parts(y: f64) -> Floored
+    requires { ⌜ Within 1048577 y ⌝ }
+    ensures { λ r. ⌜ (r .whole ≡ float (Trig.floor y)) × (r .quadrant ≡ Trig.quadrant (Trig.floor y)) ⌝ }
+{
+    if y >= 0.0 {
+        let k = std::num::truncating_f64_to_u64(y);
+        return Floored {
+            whole: std::num::nearest_u64_to_f64(k),
+            quadrant: k % 4,
+        };
+    }
+    let m = -y;
+    let t = std::num::truncating_f64_to_u64(m);
+    let k = if std::num::nearest_u64_to_f64(t) < m {
+        t + 1
+    } else {
+        t
+    };
+    Floored {
+        whole: -std::num::nearest_u64_to_f64(k),
+        quadrant: (4 - k % 4) % 4,
+    }
+}
+
+// The sine and the cosine after q quarter turns, from those before.
+fn turned(q: u64, s: f64, c: f64) -> SinCos
+    ensures { λ r. ⌜ r ≡ Trig.turned q s c ⌝ }
+{
+    match q {
+        0 => SinCos { sin: s, cos: c },
+        1 => SinCos { sin: c, cos: -s },
+        2 => SinCos { sin: -s, cos: -c },
+        _ => SinCos { sin: -c, cos: s },
+    }
+}
+
+// The sine and the cosine of x. Beyond 1048576 in size, and of a NaN, both are a NaN.
+pub fn sin_cos(x: f64) -> SinCos
+    ensures { λ r. ⌜ r ≡ Trig.sinCos x ⌝ }
+{
+    if (x >= -1048576.0) & (x <= 1048576.0) {
+        let f = floor_parts(x * TWO_OVER_PI + 0.5);
+        let k = f.whole;
+        let r = ((x - k * HALF_PI_HIGH) - k * HALF_PI_MIDDLE) - k * HALF_PI_LOW;
+        let z = r * r;
+        let s = r * alternating_series(z, &SINE_DIVISORS);
+        let c = alternating_series(z, &COSINE_DIVISORS);
+        return turned(f.quadrant, s, c);
+    }
+    SinCos {
+        sin: 0.0 / 0.0,
+        cos: 0.0 / 0.0,
+    }
+}
+
+// The occupation of a frequency x: 1 / (exp(x / temperature) - 1).
+pub fn bose_einstein(x: f64, temperature: f64) -> f64
+    ensures { λ r. ⌜ r ≡ boseEinstein x temperature ⌝ }
+{
+    1.0 / (exp(x / temperature) - 1.0)
+}

@@ -1,0 +1,22 @@
+-- `standins_replay::begins` is safe: the part that is lent has n bytes. Assumes nothing.
+use mathlib.Core.Path.{sym}
+use native.Mathlib.Omega.{arith}
+use borrow.Author.Needs.{needs}
+use lib.Seq.{length-take-le}
+use Rattle.standins_replay.proofs.begins.Statement.{statement}
+use Rattle.standins_replay.proofs.begins.Tie as tie
+
+returns : tie.Need-returns
+returns c = search needs
+
+slice-aggregate-same : tie.Need-slice-aggregate-same
+slice-aggregate-same c = sym (length-take-le _ _ (omega arith))
+
+same-requires : tie.Need-same-requires
+same-requires c κs = search needs
+
+returns-2 : tie.Need-returns-2
+returns-2 c = search needs
+
+pub begins-spec : {M : Type 1} → statement M
+begins-spec = tie.close (tie.spec returns slice-aggregate-same same-requires returns-2)
