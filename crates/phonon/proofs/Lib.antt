@@ -4,3 +4,5 @@ pub mod Laws
 pub mod Order
 pub mod TwoRuns
 pub mod ClosedCases
+pub mod Accepted
+pub mod Shares

@@ -59,8 +59,9 @@ tripletLengthsOk s =
 
 unfoldable pub listLengthsOk : ListSet → Bool
 listLengthsOk s =
-    allTrue (eqb (length (s .triplets)) (3 * s .list) ∷ tableLengths (s .tables) (sizes (s .tables))
-    ++ bufferLengths (s .list * sizes (s .tables) .slots) (sizes (s .tables)) (length (s .flags)) (length (s .strengths)) (length (s .work)))
+    allTrue
+    (eqb (length (s .triplets)) (3 * s .list)
+    ∷ (tableLengths (s .tables) (sizes (s .tables)) ++ bufferLengths (s .list * sizes (s .tables) .slots) (sizes (s .tables)) (length (s .flags)) (length (s .strengths)) (length (s .work))))
 
 unfoldable pub totalsLengthsOk : TotalsSet → Bool
 totalsLengthsOk s =
@@ -75,8 +76,13 @@ totalsLengthsOk s =
 
 unfoldable pub joinedLengthsOk : JoinedSet → Bool
 joinedLengthsOk s =
-    allTrue (tableLengths (s .tables) (sizes (s .tables)) ++ bufferLengths (sizes (s .tables) .slots) (sizes (s .tables)) (length (s .flags)) (length (s .strengths)) (length (s .work))
-    ++ eqb (length (s .first)) (sizes (s .tables) .slots) ∷ eqb (length (s .second)) (sizes (s .tables) .slots) ∷ eqb (length (s .totals)) (s .tables .measures .first) ∷ [])
+    allTrue
+    (tableLengths (s .tables) (sizes (s .tables))
+    ++ (bufferLengths (sizes (s .tables) .slots) (sizes (s .tables)) (length (s .flags)) (length (s .strengths)) (length (s .work))
+    ++ (eqb (length (s .first)) (sizes (s .tables) .slots)
+    ∷ eqb (length (s .second)) (sizes (s .tables) .slots)
+    ∷ eqb (length (s .totals)) (s .tables .measures .first)
+    ∷ [])))
 
 -- ---- 3, index: triplet not in 0 to G - 1, p2s or s2p not in 0 to S - 1, band not in 0 to B - 1, or a vector range outside the vectors
 

@@ -1,6 +1,6 @@
 -- Tests of single numbers and of tables, as document 01's refusals are made of them. Each is true where the set passes.
 use Prim.Native.Nat.{ℕ, zero, suc, _+_}
-use mathlib.Core.Bool.{Bool, true, false, _&&_}
+use mathlib.Core.Bool.{Bool, true, false, _&&_, cond}
 use mathlib.Core.List.{List, [], _∷_}
 use lib.Ieee.{Float, nan, inf, fin}
 use lib.IntN.{ℤ, pos, negsuc}
@@ -57,3 +57,8 @@ unfoldable pub vectorRange : ℕ → ℤ → ℤ → Bool
 vectorRange n (pos count) (pos start) = leb 1 count && leb (start + count) n
 vectorRange n (pos count) (negsuc start) = false
 vectorRange n (negsuc count) start = false
+
+-- the first of the numbers k, k + 1, .., k + n - 1 at which the test p fails, and k + n where it holds at each
+unfoldable pub firstFrom : (ℕ → Bool) → ℕ → ℕ → ℕ
+firstFrom p zero k = k
+firstFrom p (suc n) k = cond (p k) (firstFrom p n (suc k)) k
