@@ -113,8 +113,8 @@ joined-plain-full = refl
 pub triplet-symmetrized : tripletOutcome symmetrized1 ≡ record {
   answer = answerFor 0;
   strengths =
-      f0 ∷ f0 ∷ f0 ∷ f0 ∷ f0 ∷ f0
-      ∷ f0 ∷ f0 ∷ bits 0x40c739ebbda8a28f ∷ f0 ∷ f0 ∷ f0
+      f0 ∷ f0 ∷ f0 ∷ bits 0x40d15d1c06ad555b ∷ f0 ∷ f0
+      ∷ f0 ∷ f0 ∷ f0 ∷ f0 ∷ f0 ∷ f0
       ∷ f0 ∷ f0 ∷ f0 ∷ f0 ∷ f0 ∷ f0 ∷ [];
   work = replicate 209 f0 ++ replicate 11 minus1;
 }

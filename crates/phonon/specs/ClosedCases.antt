@@ -148,11 +148,12 @@ joined1 anchoring form rows unflagged = record {
   work = replicate 220 minus1;
 }
 
+-- at this slot the sum of the sixths rounds otherwise in another order of the legs
 unfoldable pub symmetrized1 : TripletSet
 symmetrized1 = record {
   tables = tables1 Plain Symmetrized Full 2 (pos 0 ∷ pos 1 ∷ []);
-  triplet = points1;
-  flags = madeFlags 18 (8 ∷ 11 ∷ []);
+  triplet = pos 2 ∷ pos 0 ∷ pos 1 ∷ [];
+  flags = madeFlags 18 (3 ∷ []);
   strengths = replicate 18 minus1;
   work = replicate 220 minus1;
 }

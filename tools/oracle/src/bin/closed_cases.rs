@@ -245,12 +245,12 @@ fn triplet1() {
         Symmetry::Symmetrized,
         Form::Full,
         [0, 1],
-        &flags(&[8, 11], 18),
+        &flags(&[3], 18),
     );
     let mut strengths = vec![-1.0; 18];
     let mut work = vec![-1.0; 220];
     assert_eq!(
-        doors::one_triplet(&set, [1, 0, 2], &mut strengths, &mut work),
+        doors::one_triplet(&set, [2, 0, 1], &mut strengths, &mut work),
         0
     );
     show("symmetrized", &strengths);
