@@ -1,2 +1,8 @@
 pub mod SplitLaws
 pub mod FloatLaws
+pub mod RegionLaws
+pub mod LayoutLaws
+pub mod Products
+pub mod ColsLaws
+pub mod SplitJoin
+pub mod WorkLaws

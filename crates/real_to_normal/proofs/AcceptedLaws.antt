@@ -1,0 +1,106 @@
+-- What the work needs of an accepted set: the ranges of its indices, and the room of its tables and of the work buffer.
+use mathlib.Core.Path.{_≡_, refl, sym, ap, _∙_}
+use mathlib.Core.List.{List}
+use Prim.Native.Nat.{ℕ, zero, suc, _+_, _-_, _*_, _^_, _<_, _≤_}
+use native.Mathlib.Nat.{mul-assoc, mul-le-mul, mul-le-mul-right}
+use native.Mathlib.Numerals.{add-one}
+use native.Mathlib.Omega.{arith}
+use lib.IntN.{ℤ}
+use lib.ListN.{length}
+use Rattle.phonon.specs.declared.Form.{Form}
+use Rattle.phonon.specs.declared.Form.the-variants.{Compact, Full}
+use Rattle.phonon.specs.declared.Measures.{Measures}
+use Rattle.phonon.specs.Number.{index, int}
+use Rattle.phonon.specs.Sets.{TripletSet}
+use Rattle.phonon.specs.Limits.{workLength, rowsOf}
+use Rattle.phonon.specs.Refusal.{pointsOk, tripletRefusal}
+use Rattle.phonon.proofs.Accepted.{Measured, TableSizes, Indexed, Accepted, accepted-facts}
+use Rattle.real_to_reciprocal.specs.Shape.{Ranged, Anchored, rowsFor, Shaped}
+use Rattle.reciprocal_to_normal.proofs.FlagLaws.{band-lt}
+use Rattle.real_to_normal.specs.Work.{endAt}
+
+rows-are : (form : Form) (m : Measures) → rowsOf form m ≡ rowsFor form (m .atoms) (m .supercell)
+unfolding rowsOf
+rows-are Compact m = refl
+rows-are Full m = refl
+
+-- the layout fits into W numbers
+pub end-fits : (P S : ℕ) → 1 ≤ P → endAt P S ≤ workLength P S
+unfolding workLength
+end-fits P S p =
+    let b : P ≤ P * P = omega (arith, mul-le-mul-right P p) in
+    let c : P * P ≤ P * P * P = omega (arith, mul-le-mul-right P b) in
+    omega arith
+
+-- W is small
+pub work-small : (P S : ℕ) → P ≤ 8 → S ≤ 64 → (P * P ≤ 64) × (P * P * P ≤ 512) × (P * S ≤ 512)
+work-small P S p s =
+    let a : P * P ≤ 64 = mul-le-mul p p in
+    (a, mul-le-mul a p, mul-le-mul p s)
+
+module _ (s : TripletSet) (e : tripletRefusal s ≡ 0) where
+  abbrev P : ℕ
+  P = s .tables .measures .atoms
+
+  abbrev S : ℕ
+  S = s .tables .measures .supercell
+
+  pub facts : Accepted s
+  facts = accepted-facts s e
+
+  pub ranged : Ranged (s .tables .crystal .vectors) (s .tables .crystal .multiplicity) (S * P)
+  ranged =
+      record {
+        count = s .tables .measures .vectors;
+        room = omega (arith, facts .sized .vectors);
+        entries = omega (arith, facts .sized .multiplicity);
+        ranges = facts .indexed .ranges;
+      }
+
+  pub anchored : Anchored (s .tables .crystal .vectors) (s .tables .crystal .multiplicity) (s .tables .crystal .forces .p2s) P
+  anchored =
+      record { supercell = S; some = facts .measured .supercell; atoms = facts .sized .p2s; anchors = facts .indexed .p2s; ranged = ranged }
+
+  pub shaped : Shaped P S (s .tables .crystal .forces)
+  shaped =
+      record {
+        some = facts .measured .supercell;
+        atoms = facts .sized .p2s;
+        supercell = facts .sized .s2p;
+        anchors = facts .indexed .p2s;
+        shortest = facts .sized .shortest;
+        nonzero = facts .sized .nonzero ∙ ap (λ (r : ℕ). r * S * S) (rows-are (s .tables .crystal .forces .form) (s .tables .measures));
+        constants = facts .sized .constants ∙ ap (λ (r : ℕ). r * S * S * 27) (rows-are (s .tables .crystal .forces .form) (s .tables .measures));
+      }
+
+  pub room : endAt P S ≤ length (s .work)
+  room = omega (arith, end-fits P S (facts .measured .atoms), facts .work)
+
+  -- a grid point of the triplet
+  module _ (x : ℕ) (h : x < length (s .triplet)) where
+    abbrev g : ℕ
+    g = index (int (s .triplet) x)
+
+    pub point-lt : g < s .tables .measures .grid
+    unfolding pointsOk
+    point-lt = band-lt (s .tables .measures .grid) (s .triplet) x (facts .measured .grid) (facts .points) h
+
+    pub address-fits : 3 * g + 3 ≤ length (s .tables .grid .addresses)
+    address-fits = omega (arith, point-lt, facts .sized .addresses)
+
+    pub frequency-fits : (g + 1) * (3 * P) ≤ length (s .tables .phonons .frequencies)
+    frequency-fits =
+        let a : (g + 1) * (3 * P) ≤ s .tables .measures .grid * (3 * P) = rw add-one (mul-le-mul-right (3 * P) point-lt) in
+        omega (arith, facts .sized .frequencies)
+
+    pub eigenvector-fits : 2 * ((g + 1) * (3 * P * (3 * P))) ≤ length (s .tables .phonons .eigenvectors)
+    eigenvector-fits =
+        let a : (g + 1) * (3 * P * (3 * P)) ≤ s .tables .measures .grid * (3 * P * (3 * P)) = rw add-one (mul-le-mul-right (3 * P * (3 * P)) point-lt) in
+        omega (arith, facts .sized .eigenvectors)
+
+  pub length-of-work : workLength P S < 2 ^ 64
+  unfolding workLength
+  length-of-work =
+      let b = work-small P S (facts .measured .atoms-most) (facts .measured .supercell-most) in
+      let e : 6 * P * S ≡ 6 * (P * S) = mul-assoc 6 P S in
+      omega (arith, facts .measured .atoms-most, b .0, b .1, b .2)

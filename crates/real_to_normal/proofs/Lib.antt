@@ -1,0 +1,6 @@
+pub mod LegLaws
+pub mod OrderLaws
+pub mod SlotLaws
+pub mod SixLaws
+pub mod TripletLaws
+pub mod AcceptedLaws

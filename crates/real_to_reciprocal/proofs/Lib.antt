@@ -1,0 +1,12 @@
+pub mod SignedRead
+pub mod QLaws
+pub mod TestLaws
+pub mod PhaseLaws
+pub mod CopyLaws
+pub mod PairLaws
+pub mod ElementLaws
+pub mod ShapeLaws
+pub mod StoredLaws
+pub mod BlockLaws
+pub mod FactorLaws
+pub mod ReciprocalLaws

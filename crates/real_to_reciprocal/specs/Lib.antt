@@ -1,0 +1,4 @@
+pub mod Shape
+pub mod Copies
+pub mod Pair
+pub mod Stored

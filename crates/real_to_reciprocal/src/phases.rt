@@ -1,0 +1,173 @@
+// q vectors, and the phase factors and pre-factors that they give.
+use crate::entries::index_at;
+use common::cmplx_add;
+use common::cmplx_scale;
+use funcs::sin_cos;
+use phonon::Complex;
+use planes::put_split;
+ghost use mathlib.Core.Path.{_≡_};
+ghost use Prim.Native.Nat.{_+_, _*_, _<_, _≤_};
+ghost use lib.IntN.{pos};
+ghost use lib.ListN.{length};
+ghost use Rattle.phonon.specs.Number.{_⊕_, _⊗_, _⊘_, float, index, int};
+ghost use Rattle.phonon.specs.RealToReciprocal as Def;
+ghost use Rattle.planes.specs.Split.{WroteSplit};
+ghost use Rattle.real_to_reciprocal.specs.Shape.{Anchored, Ranged};
+
+// 400921FB54442D18
+const PI: f64 = 3.141592653589793;
+
+// One component of an address over the mesh.
+fn address_over(address: i64, mesh: i64) -> f64
+    ensures { λ r. ⌜ r ≡ float address ⊘ float mesh ⌝ }
+{
+    std::num::nearest_i64_to_f64(address) / std::num::nearest_i64_to_f64(mesh)
+}
+
+// One component of q: a row of the q matrix times x, y, z.
+fn q_entry(a: i64, b: i64, c: i64, x: f64, y: f64, z: f64) -> f64
+    ensures { λ r. ⌜ r ≡ float a ⊗ x ⊕ float b ⊗ y ⊕ float c ⊗ z ⌝ }
+{
+    std::num::nearest_i64_to_f64(a) * x
+        + std::num::nearest_i64_to_f64(b) * y
+        + std::num::nearest_i64_to_f64(c) * z
+}
+
+// The q of grid point g: the q matrix times address over mesh.
+pub fn compute_q_vec(mesh: [i64; 3], matrix: [i64; 9], addresses: &[i64], g: usize) -> [f64; 3]
+    requires { ⌜ 3 * g + 3 ≤ length (now addresses) ⌝ }
+    ensures { λ r. ⌜ r ≡ Def.qAt (record { mesh = mesh; matrix = matrix; addresses = now (addresses .entry) }) g ⌝ }
+{
+    let x = address_over(addresses[3 * g], mesh[0]);
+    let y = address_over(addresses[3 * g + 1], mesh[1]);
+    let z = address_over(addresses[3 * g + 2], mesh[2]);
+    [
+        q_entry(matrix[0], matrix[1], matrix[2], x, y, z),
+        q_entry(matrix[3], matrix[4], matrix[5], x, y, z),
+        q_entry(matrix[6], matrix[7], matrix[8], x, y, z),
+    ]
+}
+
+// The phase of vector v.
+pub fn phase(q: &[f64; 3], vectors: &[f64], v: usize) -> f64
+    requires { ⌜ 3 * v + 3 ≤ length (now vectors) ⌝ }
+    ensures { λ r. ⌜ r ≡ Def.phase (now (q .entry)) (now (vectors .entry)) v ⌝ }
+{
+    (q[0] * vectors[3 * v] + q[1] * vectors[3 * v + 1] + q[2] * vectors[3 * v + 2]) * 2.0 * PI
+}
+
+// The cosine and the sine of x, as a complex number.
+fn cis(x: f64) -> Complex
+    ensures { λ r. ⌜ r ≡ Def.cis x ⌝ }
+{
+    let p = sin_cos(x);
+    Complex {
+        re: p.cos,
+        im: p.sin,
+    }
+}
+
+// The mean of the phase factors of `count` vectors, from vector `start` on.
+pub fn get_phase_factor(q: &[f64; 3], vectors: &[f64], count: usize, start: usize) -> Complex
+    requires { ⌜ 3 * (start + count) ≤ length (now vectors) ⌝ }
+    ensures { λ r. ⌜ r ≡ Def.phaseFactor (now (q .entry)) (now (vectors .entry)) (pos count) (pos start) ⌝ }
+{
+    let mut sum = Complex { re: 0.0, im: 0.0 };
+    for i in 0..count {
+        sum = cmplx_add(sum, cis(phase(q, vectors, start + i)));
+    }
+    cmplx_scale(sum, 1.0 / std::num::nearest_u64_to_f64(count as u64))
+}
+
+// The phase factors of atom i and each supercell atom, as ns numbers in planes from `off` on.
+fn phase_factor_row(
+    w: &mut [f64],
+    off: usize,
+    d: usize,
+    q: &[f64; 3],
+    vectors: &[f64],
+    multiplicity: &[i64],
+    np: usize,
+    ns: usize,
+    i: usize,
+)
+    requires { ⌜ (i < np) × (ns ≤ d) × (off + d + ns ≤ length (now w)) × Ranged (now vectors) (now multiplicity) (ns * np) ⌝ }
+    ensures { λ _. ⌜ WroteSplit (now (w .entry)) (now (w .exit)) off d ns (λ j. Def.phaseFactor (now (q .entry)) (now (vectors .entry)) (int (now (multiplicity .entry)) (2 * (j * np + i))) (int (now (multiplicity .entry)) (2 * (j * np + i) + 1))) ⌝ }
+{
+    for j in 0..ns {
+        let n = 2 * (j * np + i);
+        let count = index_at(multiplicity, n);
+        let start = index_at(multiplicity, n + 1);
+        put_split(w, off, d, j, get_phase_factor(q, vectors, count, start));
+    }
+}
+
+// The phase factors of one leg, whose q is given: np * ns numbers in planes from `off` on.
+pub fn phase_factors(
+    w: &mut [f64],
+    off: usize,
+    q: &[f64; 3],
+    vectors: &[f64],
+    multiplicity: &[i64],
+    np: usize,
+    ns: usize,
+)
+    requires { ⌜ (off + 2 * (np * ns) ≤ length (now w)) × Ranged (now vectors) (now multiplicity) (ns * np) ⌝ }
+    ensures { λ _. ⌜ WroteSplit (now (w .entry)) (now (w .exit)) off (np * ns) (np * ns) (Def.phaseFactorEntry np ns (now (vectors .entry)) (now (multiplicity .entry)) (now (q .entry))) ⌝ }
+{
+    let d = np * ns;
+    for i in 0..np {
+        phase_factor_row(w, off + i * ns, d, q, vectors, multiplicity, np, ns, i);
+    }
+}
+
+// The phase of vector v at the sum of the three q.
+pub fn pre_phase(vectors: &[f64], q0: &[f64; 3], q1: &[f64; 3], q2: &[f64; 3], v: usize) -> f64
+    requires { ⌜ 3 * v + 3 ≤ length (now vectors) ⌝ }
+    ensures { λ r. ⌜ r ≡ Def.prePhase (now (vectors .entry)) (record { leg0 = now (q0 .entry); leg1 = now (q1 .entry); leg2 = now (q2 .entry) }) v ⌝ }
+{
+    let mut sum = 0.0;
+    for j in 0..3 {
+        sum = sum + vectors[3 * v + j] * (q0[j] + q1[j] + q2[j]);
+    }
+    sum * (2.0 * PI)
+}
+
+// The pre-factor of atom i: that of the first vector of entry p2s[i] * np of the multiplicities.
+pub fn get_pre_phase_factor(
+    i: usize,
+    q0: &[f64; 3],
+    q1: &[f64; 3],
+    q2: &[f64; 3],
+    vectors: &[f64],
+    multiplicity: &[i64],
+    p2s: &[i64],
+    np: usize,
+) -> Complex
+    requires { ⌜ (i < length (now p2s)) × (2 * (index (int (now p2s) i) * np) + 2 ≤ length (now multiplicity)) × (3 * Def.anchorVector np (now multiplicity) (now p2s) i + 3 ≤ length (now vectors)) ⌝ }
+    ensures { λ r. ⌜ r ≡ Def.preFactorEntry np (now (vectors .entry)) (now (multiplicity .entry)) (now (p2s .entry)) (record { leg0 = now (q0 .entry); leg1 = now (q1 .entry); leg2 = now (q2 .entry) }) i ⌝ }
+{
+    let n = 2 * (index_at(p2s, i) * np) + 1;
+    cis(pre_phase(vectors, q0, q1, q2, index_at(multiplicity, n)))
+}
+
+// The pre-factors: np numbers in planes from `off` on.
+pub fn pre_phase_factors(
+    w: &mut [f64],
+    off: usize,
+    q0: &[f64; 3],
+    q1: &[f64; 3],
+    q2: &[f64; 3],
+    vectors: &[f64],
+    multiplicity: &[i64],
+    p2s: &[i64],
+    np: usize,
+)
+    requires { ⌜ (off + 2 * np ≤ length (now w)) × Anchored (now vectors) (now multiplicity) (now p2s) np ⌝ }
+    ensures { λ _. ⌜ WroteSplit (now (w .entry)) (now (w .exit)) off np np (Def.preFactorEntry np (now (vectors .entry)) (now (multiplicity .entry)) (now (p2s .entry)) (record { leg0 = now (q0 .entry); leg1 = now (q1 .entry); leg2 = now (q2 .entry) })) ⌝ }
+{
+    for i in 0..np {
+        let z = get_pre_phase_factor(i, q0, q1, q2, vectors, multiplicity, p2s, np);
+        put_split(w, off, np, i, z);
+    }
+}

@@ -1,0 +1,4 @@
+pub mod Arrays
+pub mod Columns
+pub mod Slots
+pub mod Listing
