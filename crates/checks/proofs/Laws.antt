@@ -1,0 +1,208 @@
+-- Laws of the tests, over any test: the first number that fails one, and the test of all numbers below an end, tell the same.
+use Prim.Native.Nat.{ℕ, zero, suc, _+_, _-_, _*_, _≤_, _<_}
+use mathlib.Core.Bool.{Bool, true, false, _&&_, cond}
+use mathlib.Core.Path.{_≡_, refl, sym, _∙_}
+use mathlib.Core.List.{List, [], _∷_}
+use mathlib.Core.Logic.{_⊎_, inl, inr, ⊎-elim}
+use native.Mathlib.Nat.{eq-or-lt-of-le, suc-mul, zero-mul, sub-zero}
+use native.Mathlib.Numerals.{add-one}
+use native.Mathlib.Omega.{arith}
+use lib.Ieee.{Float, nan, inf, fin, binary64, lt, eq, div, up, down}
+use lib.Ieee.Fits.{up-pos}
+use lib.IntN.{ℤ, pos}
+use lib.Dec.{leb, eqb}
+use borrow.Author.Tests.{leb-true, leb-false, ltb-true, ltb-false, eqb-true, eq-eqb, ne-eqb}
+use Rattle.phonon.specs.Tests.{measured, everyBelow, firstFrom, finite, signBit, allTrue, allTrueAfter}
+use Rattle.checks.specs.Scan.{Passed}
+
+pub and-false : (a : Bool) → (a && false) ≡ false
+and-false true = refl
+and-false false = refl
+
+pub and-left : (a b : Bool) → (a && b) ≡ true → a ≡ true
+and-left true b e = refl
+and-left false b e = e
+
+pub and-right : (a b : Bool) → (a && b) ≡ true → b ≡ true
+and-right true b e = e
+and-right false true e = refl
+and-right false false e = e
+
+-- ---- every test of a list of tests
+
+abbrev pub Holds : List Bool → Type 0
+Holds [] = Unit
+Holds (b ∷ bs) = (b ≡ true) × Holds bs
+
+holds-after : (a : Bool) (bs : List Bool) → allTrueAfter a bs ≡ true → (a ≡ true) × Holds bs
+unfolding allTrueAfter
+holds-after a [] e = (e, tt)
+holds-after a (b ∷ bs) e =
+    let h = holds-after (a && b) bs e in
+    (and-left a b (h .0), (and-right a b (h .0), h .1))
+
+pub holds : (bs : List Bool) → allTrue bs ≡ true → Holds bs
+unfolding allTrue
+holds [] e = tt
+holds (b ∷ bs) e = holds-after b bs e
+
+-- the bounds that a measure's test shows
+pub measured-in : (low high n : ℕ) → measured low high n ≡ true → (low ≤ n) × (n ≤ high)
+measured-in low high n e =
+    (leb-true low n (and-left (leb low n) (leb n high) e), leb-true n high (and-right (leb low n) (leb n high) e))
+
+-- two orders that follow from one another have one test
+leb-same-by : (a b c d : ℕ) → (a ≤ b → c ≤ d) → (c ≤ d → a ≤ b) → (t u : Bool) → leb a b ≡ t → leb c d ≡ u → leb a b ≡ leb c d
+leb-same-by a b c d f g true true p q = p ∙ sym q
+leb-same-by a b c d f g true false p q = absurd (omega (arith, f (leb-true a b p), leb-false c d q))
+leb-same-by a b c d f g false true p q = absurd (omega (arith, g (leb-true c d q), leb-false a b p))
+leb-same-by a b c d f g false false p q = p ∙ sym q
+
+pub leb-same : (a b c d : ℕ) → (a ≤ b → c ≤ d) → (c ≤ d → a ≤ b) → leb a b ≡ leb c d
+leb-same a b c d f g = leb-same-by a b c d f g (leb a b) (leb c d) refl refl
+
+-- ---- the test of every number below an end
+
+below-or-at : (i n : ℕ) → i < suc n → (i < n) ⊎ (i ≡ n)
+below-or-at i n h = ⊎-elim (λ e. inr e) (λ l. inl l) (eq-or-lt-of-le (omega arith))
+
+pub every-none : (p : ℕ → Bool) → everyBelow p 0 ≡ true
+unfolding everyBelow
+every-none p = refl
+
+every-more : (p : ℕ → Bool) (k : ℕ) → everyBelow p k ≡ true → p k ≡ true → everyBelow p (suc k) ≡ true
+unfolding everyBelow
+every-more p k h e = rw h e
+
+-- one test more, of results that are known
+pub every-step : (p : ℕ → Bool) (k : ℕ) {a b : Bool} → a ≡ everyBelow p k → b ≡ p k → (a && b) ≡ everyBelow p (k + 1)
+unfolding everyBelow
+every-step p k u v = rw (add-one, u, v) refl
+
+-- a fault below the end
+pub every-bad : (p : ℕ → Bool) (n i : ℕ) → i < n → p i ≡ false → everyBelow p n ≡ false
+unfolding everyBelow
+every-bad p zero i h e = absurd (omega arith)
+every-bad p (suc n) i h e =
+    ⊎-elim
+    (λ (l : i < n). rw (every-bad p n i l e) refl)
+    (λ (m : i ≡ n). rw (rw m at e) (and-false (everyBelow p n)))
+    (below-or-at i n h)
+
+-- what holds at every number holds at each
+pub every-at : (p : ℕ → Bool) (n i : ℕ) → everyBelow p n ≡ true → i < n → p i ≡ true
+unfolding everyBelow
+every-at p zero i h l = absurd (omega arith)
+every-at p (suc n) i h l =
+    ⊎-elim
+    (λ (k : i < n). every-at p n i (and-left (everyBelow p n) (p n) h) k)
+    (λ (m : i ≡ n). rw m (and-right (everyBelow p n) (p n) h))
+    (below-or-at i n l)
+
+-- ---- the first number at which a test fails
+
+-- nothing is passed yet
+pub passed-none : (p : ℕ → Bool) (n : ℕ) → Passed p n 0
+passed-none p n = record { inside = omega arith; first = rw sub-zero refl }
+
+-- i is passed, is the first that fails, or is the end
+pub passed-more : {p : ℕ → Bool} {n i : ℕ} → Passed p n i → i < n → p i ≡ true → Passed p n (i + 1)
+unfolding firstFrom
+passed-more {p} {n} {i} w h e =
+    let left : n - i ≡ suc (n - (i + 1)) = omega arith in
+    let step : firstFrom p (n - (i + 1)) (i + 1) ≡ firstFrom p (n - i) i = rw (left, add-one) (rw e refl) in
+    record { inside = omega arith; first = step ∙ w .first }
+
+pub first-here : {p : ℕ → Bool} {n i : ℕ} → Passed p n i → i < n → p i ≡ false → i ≡ firstFrom p n 0
+unfolding firstFrom
+first-here {p} {n} {i} w h e =
+    let left : n - i ≡ suc (n - (i + 1)) = omega arith in
+    let here : firstFrom p (n - i) i ≡ i = rw left (rw e refl) in
+    sym here ∙ w .first
+
+pub first-none : {p : ℕ → Bool} {n i : ℕ} → Passed p n i → n ≤ i → i ≡ firstFrom p n 0
+unfolding firstFrom
+first-none {p} {n} {i} w h =
+    let none : n - i ≡ 0 = omega arith in
+    let here : firstFrom p (n - i) i ≡ i = rw none refl in
+    sym here ∙ w .first
+
+-- the same at an equal number
+pub passed-same : {p : ℕ → Bool} {n a b : ℕ} → a ≡ b → Passed p n a → Passed p n b
+passed-same e w = rw (sym e) w
+
+-- m entries at once
+pub passed-many : {p : ℕ → Bool} {n i : ℕ} (m : ℕ) → Passed p n i → i + m ≤ n → everyBelow (λ t. p (i + t)) m ≡ true → Passed p n (i + m)
+unfolding everyBelow
+passed-many {p} {n} {i} zero w h e = let z : i ≡ i + 0 = omega arith in passed-same z w
+passed-many {p} {n} {i} (suc m) w h e =
+    let before = passed-many m w (omega arith) (and-left (everyBelow (λ t. p (i + t)) m) (p (i + m)) e) in
+    let z : i + m + 1 ≡ i + suc m = omega arith in
+    passed-same z (passed-more before (omega arith) (and-right (everyBelow (λ t. p (i + t)) m) (p (i + m)) e))
+
+-- the first of the n numbers from k on is the end exactly where none of them fails, given that none below k does
+first-end : (p : ℕ → Bool) (n k : ℕ) → everyBelow p k ≡ true → eqb (firstFrom p n k) (n + k) ≡ everyBelow p (n + k)
+unfolding firstFrom
+first-end p zero k h = let e : 0 + k ≡ k = omega arith in rw e (rw h (eq-eqb k k refl))
+first-end p (suc n) k h = by (p k) refl (λ e. first-end p n (suc k) (every-more p k h e))
+  where
+    by : (b : Bool) → p k ≡ b → (p k ≡ true → eqb (firstFrom p n (suc k)) (n + suc k) ≡ everyBelow p (n + suc k))
+        → eqb (cond (p k) (firstFrom p n (suc k)) k) (suc n + k) ≡ everyBelow p (suc n + k)
+    by true e go = let m : suc n + k ≡ n + suc k = omega arith in rw (e, m) (go e)
+    by false e go = rw e (ne-eqb k (suc n + k) (λ (z : k ≡ suc n + k). omega arith) ∙ sym (every-bad p (suc n + k) k (omega arith) e))
+
+-- a scan that comes to the end has passed every entry
+pub first-every : (p : ℕ → Bool) (n : ℕ) → eqb (firstFrom p n 0) n ≡ everyBelow p n
+first-every p n = let e : n + 0 ≡ n = omega arith in rw e at (first-end p n 0 (every-none p))
+
+-- ---- floats
+
+pub above-bottom : (x : Float) → lt (inf true) x ≡ true → lt x (inf false) ≡ finite x
+unfolding lt finite
+above-bottom nan e = refl
+above-bottom (inf true) e = sym e
+above-bottom (inf false) e = refl
+above-bottom (fin s m d) e = refl
+
+pub at-bottom : (x : Float) → lt (inf true) x ≡ false → false ≡ finite x
+unfolding lt finite
+at-bottom nan e = refl
+at-bottom (inf s) e = refl
+at-bottom (fin s m d) e = sym e
+
+-- ---- the sign bit
+
+abbrev zero-float : Float
+zero-float = fin false 0 (pos 0)
+
+pub below-zero : (x : Float) → lt x zero-float ≡ true → true ≡ signBit x
+unfolding lt signBit
+below-zero nan e = sym e
+below-zero (inf s) e = sym e
+below-zero (fin true m d) e = refl
+below-zero (fin false m d) e = absurd (omega (arith, ltb-true (m * up d * 1) (0 * down d) e, zero-mul (down d)))
+
+zero-of : (m k : ℕ) → 0 < k → m * k ≡ 0 → m ≡ 0
+zero-of zero k h e = refl
+zero-of (suc m) k h e = absurd (omega (arith, suc-mul m k))
+
+no-magnitude : (m : ℕ) (d : ℤ) → eqb (m * up d * 1) (0 * down d) ≡ true → m ≡ 0
+no-magnitude m d e = zero-of m (up d) (up-pos d) (omega (arith, eqb-true (m * up d * 1) (0 * down d) e, zero-mul (down d)))
+
+pub zero-sign : (x : Float) → eq x zero-float ≡ true → lt (div binary64 (fin false 1 (pos 0)) x) zero-float ≡ signBit x
+unfolding eq lt div signBit
+zero-sign nan e = refl
+zero-sign (inf s) e = absurd (let z : _≡_ {A = ℕ} 0 1 = cc in omega arith)
+zero-sign (fin true m d) e = rw (no-magnitude m d (and-left (eqb (m * up d * 1) (0 * down d)) _ e)) refl
+zero-sign (fin false m d) e = rw (no-magnitude m d (and-left (eqb (m * up d * 1) (0 * down d)) _ e)) refl
+
+pub above-zero : (x : Float) → lt x zero-float ≡ false → eq x zero-float ≡ false → false ≡ signBit x
+unfolding lt eq signBit
+above-zero nan e q = refl
+above-zero (inf s) e q = sym e
+above-zero (fin false m d) e q = refl
+above-zero (fin true m d) e q =
+    let least = ltb-false 0 (m * up d * 1 + 0 * down d) e in
+    let none : m * up d * 1 ≡ 0 = omega (arith, least) in
+    let none' : m * up d * 1 ≡ 0 * down d = omega (arith, least, zero-mul (down d)) in
+    sym q ∙ rw (eq-eqb (m * up d * 1) (0 * down d) none', eq-eqb (m * up d * 1) 0 none) refl

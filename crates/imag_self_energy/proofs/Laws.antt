@@ -1,0 +1,191 @@
+-- Laws of bands, slots and sums: what the loops work out from the bands that they hold is the definition's total.
+use Prim.Native.Nat.{ℕ, _+_, _*_, _<_, _≤_}
+use native.Mathlib.Nat.{mul-le-mul-left, mul-le-mul-right, mul-one, one-mul, eq-or-lt-of-le}
+use native.Mathlib.Omega.{arith}
+use mathlib.Core.Path.{_≡_, refl, sym, ap, _∙_}
+use mathlib.Core.Bool.{Bool, true, false, not, _&&_, cond}
+use mathlib.Core.List.{List}
+use mathlib.Core.Logic.{⊎-elim}
+use lib.Dec.{eqb}
+use lib.Ieee.{Float, nan, lt}
+use lib.IntN.{ℤ}
+use lib.ListN.{getD, length, set, length-take, length-drop}
+use lib.Seq.{getD-set-same, getD-set-other, getD-take, getD-drop, ext-getD}
+use Rattle.phonon.specs.declared.Band.{Band}
+use Rattle.phonon.specs.declared.Weights.{Weights}
+use Rattle.phonon.specs.declared.Weights.the-variants.{PerSlot, AtFrequencyPoint}
+use Rattle.phonon.specs.Number.{_⊕_, f0, float, index, at, int, fold, table}
+use Rattle.phonon.specs.Funcs.{boseEinstein}
+use Rattle.phonon.specs.Sets.{slot, part}
+use Rattle.phonon.specs.Limits.{entriesOf}
+use Rattle.phonon.specs.ImagSelfEnergy.{Sum, block, placeOf, second1, third2, counted, contribution, slotTerm, total, totals}
+use Rattle.phonon.proofs.Laws.{fold-ext, fold-step, table-ext, table-at, table-length, pair-lt}
+use Rattle.funcs.specs.Occupation.{mark, marked}
+use Rattle.imag_self_energy.specs.declared.Shared.{Shared}
+use Rattle.imag_self_energy.specs.Bands.{bandOf, Held, bandAt, addSlot, slotStep, columnSum, bandTotal, Within, Sized}
+
+-- ---- places
+
+-- slot (b, j, k) of n bands lies below l, and so do the numbers on the way to it
+pub record SlotIn (n b j k l : ℕ) : Type 0 where
+  pub row : b * n ≤ l
+  pub column : b * n + j ≤ l
+  pub start : (b * n + j) * n ≤ l
+  pub inside : slot n b j k < l
+
+slot-in : (n b j k l : ℕ) → j < n → k < n → (b + 1) * n * n ≤ l → SlotIn n b j k l
+slot-in n b j k l p q h =
+    let o : b < b + 1 = omega arith in
+    let s : slot n b j k < (b + 1) * n * n = pair-lt (pair-lt o p) q in
+    let one : 1 ≤ n = omega arith in
+    let e : b * n + j ≤ (b * n + j) * n = omega (arith, mul-le-mul-left (b * n + j) one, mul-one (b * n + j)) in
+    record { row = omega arith; column = omega arith; start = omega arith; inside = omega arith }
+
+-- slot (b, j, k) in each slice that it is read from
+pub record SlotWithin (n c b j k : ℕ) (g : List ℕ) (x y v : List Float) : Type 0 where
+  pub flag : SlotIn n c j k (length g)
+  pub first : SlotIn n c j k (length x)
+  pub second : SlotIn n c j k (length y)
+  pub strength : SlotIn n b j k (length v)
+
+pub slot-within : {n c b j k : ℕ} {g : List ℕ} {x y v : List Float} → j < n → k < n → Within n c b g x y v → SlotWithin n c b j k g x y v
+slot-within {n} {c} {b} {j} {k} p q h =
+    record {
+      flag = slot-in n c j k _ p q (h .flags);
+      first = slot-in n c j k _ p q (h .first);
+      second = slot-in n c j k _ p q (h .second);
+      strength = slot-in n b j k _ p q (h .strengths);
+    }
+
+-- block w b lies within the entries
+block-in : (w : Weights) (n F b : ℕ) → b < F → (block w b + 1) * n * n ≤ entriesOf w F n
+unfolding block entriesOf
+block-in PerSlot n F b p = mul-le-mul-right n (mul-le-mul-right n (omega arith))
+block-in AtFrequencyPoint n F b p = omega (arith, one-mul n)
+
+pub sized-within : {w : Weights} {n F b : ℕ} {g : List ℕ} {x y v : List Float} (c : ℕ) → c ≡ block w b → b < F → Sized w n F g x y v → Within n c b g x y v
+sized-within {w} {n} {F} {b} c e p h =
+    let i = block-in w n F b p in
+    let k : (b + 1) * n * n ≤ F * n * n = mul-le-mul-right n (mul-le-mul-right n (omega arith)) in
+    record {
+      few = h .few;
+      flags = rw (e, h .flags) i;
+      first = rw (e, h .first) i;
+      second = rw (e, h .second) i;
+      strengths = rw (h .strengths) k;
+    }
+
+-- ---- the bands of a leg
+
+pub above : (t c f n : Float) → lt c f ≡ true → n ≡ boseEinstein f t → record { frequency = f; occupation = n } ≡ bandOf t c f
+unfolding bandOf marked
+above t c f n p e = rw (p, e) refl
+
+pub below : (t c f : Float) → lt c f ≡ false → record { frequency = f; occupation = mark } ≡ bandOf t c f
+unfolding bandOf marked
+below t c f p = rw p refl
+
+pub held-none : (t c : Float) (f : ℕ → Float) (l : List Band) → Held t c f 0 l
+held-none t c f l = record { held = λ i h d. absurd (omega arith) }
+
+pub held-step : {t c : Float} {f : ℕ → Float} {n : ℕ} {l : List Band} (x : Band) → Held t c f n l → n < length l → x ≡ bandOf t c (f n) → Held t c f (n + 1) (set l n x)
+held-step {t} {c} {f} {n} {l} x w h e =
+    record {
+      held = λ i p d. ⊎-elim
+          (λ (q : i ≡ n). rw q (getD-set-same l n x d h ∙ e))
+          (λ (q : i < n). getD-set-other l n i x d (λ (z : i ≡ n). omega arith) ∙ w .held i q d)
+          (eq-or-lt-of-le {n = i} {m = n} (omega arith));
+    }
+
+pub part-length : {A : Type 0} (n g : ℕ) (l : List A) → g * n + n ≤ length l → length (part n g l) ≡ n
+part-length n g l h = simp (length-take, length-drop) (omega arith)
+
+-- the bands of grid point g's stretch are those of the slice, from g * n on
+pub held-part : {t c : Float} {n : ℕ} {l : List Band} (g : ℕ) (fr leg : List Float) → leg ≡ part n g fr → Held t c (at leg) n l → Held t c (λ i. at fr (g * n + i)) n l
+held-part {t} {c} {n} g fr leg e w =
+    record {
+      held = λ i p d.
+          let a : at leg i ≡ at fr (g * n + i) = rw e (rw (getD-take, getD-drop) refl) in
+          w .held i p d ∙ ap (bandOf t c) a;
+    }
+
+-- ---- loops
+
+-- a turn of a counting loop, which makes r of x
+pub turn : {A : Type 0} (step : ℕ → A → A) (z : A) {r x : A} (n : ℕ) → r ≡ step n x → x ≡ fold n z step → r ≡ fold (n + 1) z step
+turn step z n er ex = er ∙ ap (step n) ex ∙ sym (fold-step n z step)
+
+-- the last turn was number n
+pub at-end : {A : Type 0} (step : ℕ → A → A) (z : A) {r : A} (i n : ℕ) → i ≡ n → r ≡ fold i z step → r ≡ fold n z step
+at-end step z i n e h = h ∙ ap (λ (m : ℕ). fold m z step) e
+
+-- all k columns are added, of the block that position b reads
+pub whole : (h : Shared) (n c d b k : ℕ) (seconds thirds : List Band) (g : List ℕ) (x y v : List Float) {r : Float} → c ≡ d → k ≡ n
+    → r ≡ fold k f0 (λ i. columnSum h n c b seconds g x y v i (bandAt thirds i)) → r ≡ bandTotal h n d b seconds thirds g x y v
+unfolding bandTotal
+whole h n c d b k seconds thirds g x y v e m p =
+    at-end (λ i. columnSum h n c b seconds g x y v i (bandAt thirds i)) f0 k n m p ∙ ap (λ (z : ℕ). fold n f0 (λ i. columnSum h n z b seconds g x y v i (bandAt thirds i))) e
+
+-- the first n numbers of a list are f 0, .., f (n - 1)
+pub record Filled (l : List Float) (n : ℕ) (f : ℕ → Float) : Type 0 where
+  pub filled : (i : ℕ) → i < n → at l i ≡ f i
+
+pub filled-none : (l : List Float) (f : ℕ → Float) → Filled l 0 f
+filled-none l f = record { filled = λ i h. absurd (omega arith) }
+
+pub filled-step : {l : List Float} {n : ℕ} {f : ℕ → Float} (x : Float) → Filled l n f → n < length l → x ≡ f n → Filled (set l n x) (n + 1) f
+filled-step {l} {n} {f} x w h e =
+    record {
+      filled = λ i p. ⊎-elim
+          (λ (q : i ≡ n). rw q (getD-set-same l n x nan h ∙ e))
+          (λ (q : i < n). getD-set-other l n i x nan (λ (z : i ≡ n). omega arith) ∙ w .filled i q)
+          (eq-or-lt-of-le {n = i} {m = n} (omega arith));
+    }
+
+-- a list that is filled whole is the table
+pub filled-table : {l : List Float} {n : ℕ} {f : ℕ → Float} → length l ≡ n → Filled l n f → l ≡ table n f
+filled-table {l} {n} {f} e w =
+    ext-getD nan l (table n f) (e ∙ sym (table-length n f)) (λ i h. let p : i < n = omega arith in w .filled i p ∙ sym (table-at n i f nan p))
+
+-- ---- one slot
+
+not-not : (b : Bool) → not (not b) ≡ b
+not-not true = refl
+not-not false = refl
+
+-- of the bands of frequencies f and h: where the slot counts, their occupations are worked out
+slot-is : (s : Sum) (t : Float) (g : ℕ) (f h x y v u : Float)
+    → addSlot (record { temperature = t; cutoff = s .cutoff; weight = float (s .weight) }) g (bandOf t (s .cutoff) f) (bandOf t (s .cutoff) h) x y v u
+    ≡ cond (not (not (eqb g 0)) && lt (s .cutoff) f && lt (s .cutoff) h)
+    (u ⊕ contribution t (float (s .weight)) (boseEinstein f t) (boseEinstein h t) x y v) u
+unfolding addSlot bandOf marked
+slot-is s t g f h x y v u = rw not-not (by (eqb g 0) (lt (s .cutoff) f) (lt (s .cutoff) h))
+  where
+    by : (a p q : Bool)
+        → cond (a && p && q) (u ⊕ contribution t (float (s .weight)) (cond p (boseEinstein f t) mark) (cond q (boseEinstein h t) mark) x y v) u
+        ≡ cond (a && p && q) (u ⊕ contribution t (float (s .weight)) (boseEinstein f t) (boseEinstein h t) x y v) u
+    by false p q = refl
+    by true false q = refl
+    by true true false = refl
+    by true true true = refl
+
+-- ---- the total
+
+module _ (s : Sum) (t : Float) (v : List Float) {seconds thirds : List Band}
+    (p : Held t (s .cutoff) (second1 s) (s .bands) seconds)
+    (q : Held t (s .cutoff) (third2 s) (s .bands) thirds) where
+  total-is : (b : ℕ)
+      → bandTotal (record { temperature = t; cutoff = s .cutoff; weight = float (s .weight) }) (s .bands) (block (s .weights) b) b seconds thirds (s .flags) (s .first) (s .second) v
+      ≡ total s t v b
+  unfolding bandTotal columnSum slotStep total counted slotTerm
+  total-is b =
+      fold-ext (s .bands) f0 _ _
+      (λ k pk u. fold-ext (s .bands) u _ _
+      (λ j pj a. rw (p .held j pj _, q .held k pk _)
+      (slot-is s t (getD (s .flags) (placeOf s b j k) 0) (second1 s j) (third2 s k) (at (s .first) (placeOf s b j k)) (at (s .second) (placeOf s b j k)) (at v (slot (s .bands) b j k)) a)))
+
+  pub totals-are : (F : ℕ) (w : Float) → w ≡ float (s .weight)
+      → table F (λ b. bandTotal (record { temperature = t; cutoff = s .cutoff; weight = w }) (s .bands) (block (s .weights) b) b seconds thirds (s .flags) (s .first) (s .second) v)
+      ≡ totals F s t v
+  unfolding totals
+  totals-are F w e = rw e (table-ext F _ _ (λ b l. total-is b))

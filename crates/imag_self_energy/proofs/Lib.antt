@@ -1,0 +1,3 @@
+-- The laws that belong to no one function: of the sum, and of the door's checks.
+pub mod Laws
+pub mod CheckLaws

@@ -1,0 +1,179 @@
+-- After j turns the first j bands of both later legs are held; all held, and the weight cast once, the totals are the definition's.
+use Prim.Native.Nat.{_-_, _≤_, _<_}
+use mathlib.Core.Path.{_≡_, refl, ap, _∙_}
+use native.Mathlib.Omega.{arith}
+use borrow.Author.Needs.{needs, sfits-of}
+use lib.Ieee.{binary64, ofInt}
+use lib.ListN.{length, length-set}
+use mir.ValLaws.{toZ-ofZ}
+use mir.Syntax.{w64}
+use Rattle.phonon.specs.Number.{index, at, int}
+use Rattle.phonon.specs.ImagSelfEnergy.{Sum}
+use Rattle.imag_self_energy.specs.Bands.{mostBands, Held}
+use Rattle.imag_self_energy.proofs.Laws.{part-length, held-none, held-step, held-part, totals-are}
+use Rattle.imag_self_energy.proofs.write_totals.Statement.{statement}
+use Rattle.imag_self_energy.proofs.write_totals.Tie as tie
+
+abbrev Inv-loop : tie.InvT-loop
+Inv-loop weights bands frequencies cutoff flags first second weight temperature strengths totals g1 g2 leg1 leg2 seconds₀ thirds₀ j₀ seconds thirds j =
+    (j ≤ bands)
+    × (length seconds ≡ mostBands)
+    × (length thirds ≡ mostBands)
+    × Held temperature cutoff (at leg1) j seconds
+    × Held temperature cutoff (at leg2) j thirds
+
+abbrev μ-loop : tie.MeasureT-loop
+μ-loop weights bands frequencies cutoff flags first second weight temperature strengths totals g1 g2 leg1 leg2 seconds₀ thirds₀ j₀ seconds thirds j =
+    bands - j
+
+-- what the totals read, as the contract has it
+abbrev read : tie.Start Inv-loop μ-loop → Sum
+read s =
+    record {
+      weights = s .args .weights;
+      bands = s .args .bands;
+      points = s .args .t3;
+      frequencies = s .args .frequencies .now;
+      cutoff = s .args .cutoff;
+      flags = s .args .flags .now;
+      weight = s .args .weight;
+      first = s .args .first .now;
+      second = s .args .second .now;
+    }
+
+-- the grid points as numbers
+point1 : (c : tie.After-index-of2 Inv-loop μ-loop) → c .before .before .index-of .result ≡ index (int (c .before .before .before .before .before .before .before .before .before .before .args .t3) 1)
+point1 c = rw (toZ-ofZ w64 (int (c .before .before .before .before .before .before .before .before .before .before .args .t3) 1) (sfits-of (c .before .before .before .index-of-arg .given))) at (c .before .before .index-of .ensures)
+
+point2 : (c : tie.After-index-of2 Inv-loop μ-loop) → c .index-of2 .result ≡ index (int (c .before .before .before .before .before .before .before .before .before .before .args .t3) 2)
+point2 c = rw (toZ-ofZ w64 (int (c .before .before .before .before .before .before .before .before .before .before .args .t3) 2) (sfits-of (c .before .index-of-arg2 .given))) at (c .index-of2 .ensures)
+
+-- both stretches are as long as there are bands
+long1 : (c : tie.After-leg-frequencies2 Inv-loop μ-loop) → length (c .before .leg-frequencies .result .now) ≡ c .before .before .before .before .before .before .before .before .before .before .before .before .args .bands
+long1 c = ap length (c .before .leg-frequencies .ensures) ∙ part-length _ _ _ (rw (point1 (c .before .before)) (c .before .before .before .before .before .before .before .before .before .before .before .before .pre .1))
+
+long2 : (c : tie.After-leg-frequencies2 Inv-loop μ-loop) → length (c .leg-frequencies2 .result .now) ≡ c .before .before .before .before .before .before .before .before .before .before .before .before .args .bands
+long2 c = ap length (c .leg-frequencies2 .ensures) ∙ part-length _ _ _ (rw (point2 (c .before .before)) (c .before .before .before .before .before .before .before .before .before .before .before .before .pre .2))
+
+array-copy-out-index-of : tie.Need-array-copy-out-index-of Inv-loop μ-loop
+array-copy-out-index-of c = omega arith
+
+index-of-requires : tie.Need-index-of-requires Inv-loop μ-loop
+index-of-requires c κs = search needs
+
+array-copy-out-index-of-2 : tie.Need-array-copy-out-index-of-2 Inv-loop μ-loop
+array-copy-out-index-of-2 c = omega arith
+
+index-of-requires-2 : tie.Need-index-of-requires-2 Inv-loop μ-loop
+index-of-requires-2 c κs = search needs
+
+leg-frequencies-requires : tie.Need-leg-frequencies-requires Inv-loop μ-loop
+leg-frequencies-requires c κs = rw (point1 c) (c .before .before .before .before .before .before .before .before .before .before .pre .1)
+
+leg-frequencies-requires-2 : tie.Need-leg-frequencies-requires-2 Inv-loop μ-loop
+leg-frequencies-requires-2 c κs = rw (point2 (c .before)) (c .before .before .before .before .before .before .before .before .before .before .before .pre .2)
+
+loop-holds : tie.Need-loop-holds Inv-loop μ-loop
+loop-holds c = (omega arith, refl, refl, held-none _ _ _ _, held-none _ _ _ _)
+
+mul-band-of : tie.Need-mul-band-of Inv-loop μ-loop
+mul-band-of c = omega (arith, c .before .before .before .before .before .before .before .before .before .before .before .before .before .before .pre .0 .few)
+
+shared-slice-read-band-of : tie.Need-shared-slice-read-band-of Inv-loop μ-loop
+shared-slice-read-band-of c = omega (arith, long1 (c .before .before .before))
+
+band-of-requires : tie.Need-band-of-requires Inv-loop μ-loop
+band-of-requires c κs = search needs
+
+mul-seconds : tie.Need-mul-seconds Inv-loop μ-loop
+mul-seconds c = omega (arith, c .before .before .before .before .before .before .before .before .before .before .before .before .before .before .before .before .pre .0 .few)
+
+array-set-from-seconds : tie.Need-array-set-from-seconds Inv-loop μ-loop
+array-set-from-seconds c = omega (arith, c .before .before .before .before .before .before .before .before .before .before .before .before .before .before .before .before .pre .0 .few)
+
+mul-band-of-2 : tie.Need-mul-band-of-2 Inv-loop μ-loop
+mul-band-of-2 c = omega (arith, c .before .before .before .before .before .before .before .before .before .before .before .before .before .before .before .before .pre .0 .few)
+
+shared-slice-read-band-of-2 : tie.Need-shared-slice-read-band-of-2 Inv-loop μ-loop
+shared-slice-read-band-of-2 c = omega (arith, long2 (c .before .before .before .before .before))
+
+band-of-requires-2 : tie.Need-band-of-requires-2 Inv-loop μ-loop
+band-of-requires-2 c κs = search needs
+
+mul-thirds : tie.Need-mul-thirds Inv-loop μ-loop
+mul-thirds c = omega (arith, c .before .before .before .before .before .before .before .before .before .before .before .before .before .before .before .before .before .before .pre .0 .few)
+
+array-set-from-thirds : tie.Need-array-set-from-thirds Inv-loop μ-loop
+array-set-from-thirds c = omega (arith, c .before .before .before .before .before .before .before .before .before .before .before .before .before .before .before .before .before .before .pre .0 .few)
+
+add-j : tie.Need-add-j Inv-loop μ-loop
+add-j c = omega (arith, c .before .before .before .before .before .before .before .before .before .before .before .before .before .before .before .before .before .before .pre .0 .few)
+
+loop-less : tie.Need-loop-less Inv-loop μ-loop
+loop-less c = omega arith
+
+loop-again : tie.Need-loop-again Inv-loop μ-loop
+loop-again c = 
+    let l = c .before .before .before .before .before .loop in
+    let few = c .before .before .before .before .before .before .before .before .before .before .before .before .before .before .before .before .before .before .pre .0 .few in
+    let p : l .j < length (l .seconds) = omega arith in
+    let q : l .j < length (l .thirds) = omega arith in (
+      omega arith,
+      length-set (l .seconds) (l .j) (c .before .before .band-of .result) ∙ l .inv .1,
+      length-set (l .thirds) (l .j) (c .band-of2 .result) ∙ l .inv .2,
+      held-step _ (l .inv .3) p (c .before .before .band-of .ensures),
+      held-step _ (l .inv .4) q (c .band-of2 .ensures),
+    )
+
+nearest-i64-to-f64-requires : tie.Need-nearest-i64-to-f64-requires Inv-loop μ-loop
+nearest-i64-to-f64-requires c κs = search needs
+
+fill-totals-requires : tie.Need-fill-totals-requires Inv-loop μ-loop
+fill-totals-requires c κs = c .before .before .before .before .before .before .before .before .before .before .before .before .before .before .before .before .pre .0
+
+same-length : tie.Need-same-length Inv-loop μ-loop
+same-length c = search needs
+
+returns : tie.Need-returns Inv-loop μ-loop
+returns c = 
+    let s = c .before .before .before .before .before .before .before .before .before .before .before .before .before .before .before .before .before .before .before in
+    let l = c .before .before .before .before .before .before .loop in
+    let k = c .before .before .before .before .before .before .before in
+    let all : l .j ≡ s .args .bands = omega arith in
+    let w = c .before .before .before .before .nearest-i64-to-f64 .ensures ∙ ap (ofInt binary64) (toZ-ofZ w64 _ (s .fits .weight)) in
+    c .before .before .fill-totals .ensures
+    ∙ totals-are (read s) _ _
+    (held-part _ _ _ (rw (point1 (k .before .before)) at (k .before .leg-frequencies .ensures)) (rw all at (l .inv .3)))
+    (held-part _ _ _ (rw (point2 (k .before .before)) at (k .leg-frequencies2 .ensures)) (rw all at (l .inv .4)))
+    _ _ w
+
+pub write-totals-spec : {M : Type 1} → statement M
+write-totals-spec =
+    tie.close
+    (tie.spec
+    Inv-loop
+    μ-loop
+    array-copy-out-index-of
+    index-of-requires
+    array-copy-out-index-of-2
+    index-of-requires-2
+    leg-frequencies-requires
+    leg-frequencies-requires-2
+    loop-holds
+    mul-band-of
+    shared-slice-read-band-of
+    band-of-requires
+    mul-seconds
+    array-set-from-seconds
+    mul-band-of-2
+    shared-slice-read-band-of-2
+    band-of-requires-2
+    mul-thirds
+    array-set-from-thirds
+    add-j
+    loop-less
+    loop-again
+    nearest-i64-to-f64-requires
+    fill-totals-requires
+    same-length
+    returns)

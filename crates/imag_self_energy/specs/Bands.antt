@@ -1,0 +1,70 @@
+-- The totals as the loops work them out: from the bands of the later legs, held with their occupations, and from block c of the flags and weights.
+use Prim.Native.Nat.{ℕ, _+_, _*_, _<_, _≤_}
+use mathlib.Core.Path.{_≡_}
+use mathlib.Core.Bool.{_&&_, cond}
+use mathlib.Core.List.{List}
+use lib.Dec.{eqb}
+use lib.Ieee.{Float, nan, lt}
+use lib.IntN.{ℤ}
+use lib.ListN.{getD, length}
+use Rattle.phonon.specs.declared.Band.{Band}
+use Rattle.phonon.specs.declared.Weights.{Weights}
+use Rattle.phonon.specs.Number.{_⊕_, f0, index, at, int, fold}
+use Rattle.phonon.specs.Sets.{slot}
+use Rattle.phonon.specs.Limits.{entriesOf}
+use Rattle.phonon.specs.ImagSelfEnergy.{contribution}
+use Rattle.funcs.specs.Occupation.{marked}
+use Rattle.imag_self_energy.specs.declared.Shared.{Shared}
+
+-- how many bands the arrays of the later legs hold
+abbrev pub mostBands : ℕ
+mostBands = 24
+
+-- set_occupations, for one band
+unfoldable pub bandOf : Float → Float → Float → Band
+bandOf temperature cutoff f = record { frequency = f; occupation = marked temperature cutoff f }
+
+-- the first n of an array are the bands of frequencies f 0, .., f (n - 1)
+pub record Held (temperature cutoff : Float) (f : ℕ → Float) (n : ℕ) (bands : List Band) : Type 0 where
+  pub held : (i : ℕ) → i < n → (d : Band) → getD bands i d ≡ bandOf temperature cutoff (f i)
+
+-- entry i of an array of bands
+abbrev pub bandAt : List Band → ℕ → Band
+bandAt l i = getD l i (record { frequency = nan; occupation = nan })
+
+-- one slot added to a sum, from what it reads: its flag, its two later bands, its weights x and y, its strength v
+unfoldable pub addSlot : Shared → ℕ → Band → Band → Float → Float → Float → Float → Float
+addSlot h flag p q x y v sum =
+    cond (eqb flag 0 && lt (h .cutoff) (p .frequency) && lt (h .cutoff) (q .frequency))
+    (sum ⊕ contribution (h .temperature) (h .weight) (p .occupation) (q .occupation) x y v) sum
+
+-- slot (b, j, k) of n bands added to a sum: seconds holds the bands of the second leg, q is band k of the third
+unfoldable pub slotStep : Shared → ℕ → ℕ → ℕ → List Band → List ℕ → List Float → List Float → List Float → ℕ → Band → ℕ → Float → Float
+slotStep h n c b seconds flags first second strengths k q j sum =
+    addSlot h (getD flags (slot n c j k) 0) (bandAt seconds j) q (at first (slot n c j k)) (at second (slot n c j k)) (at strengths (slot n b j k)) sum
+
+-- all j of one k
+unfoldable pub columnSum : Shared → ℕ → ℕ → ℕ → List Band → List ℕ → List Float → List Float → List Float → ℕ → Band → Float → Float
+columnSum h n c b seconds flags first second strengths k q sum =
+    fold n sum (slotStep h n c b seconds flags first second strengths k q)
+
+-- the total of position b
+unfoldable pub bandTotal : Shared → ℕ → ℕ → ℕ → List Band → List Band → List ℕ → List Float → List Float → List Float → Float
+bandTotal h n c b seconds thirds flags first second strengths =
+    fold n f0 (λ k. columnSum h n c b seconds flags first second strengths k (bandAt thirds k))
+
+-- block c of the flags g and the weights x and y, and block b of the strengths v, of n * n entries each, lie within the slices
+pub record Within (n c b : ℕ) (g : List ℕ) (x y v : List Float) : Type 0 where
+  pub few : n ≤ mostBands
+  pub flags : (c + 1) * n * n ≤ length g
+  pub first : (c + 1) * n * n ≤ length x
+  pub second : (c + 1) * n * n ≤ length y
+  pub strengths : (b + 1) * n * n ≤ length v
+
+-- flags g, weights x and y and strengths v have their lengths, of n bands and F first bands, as the weights' form asks
+pub record Sized (w : Weights) (n F : ℕ) (g : List ℕ) (x y v : List Float) : Type 0 where
+  pub few : n ≤ mostBands
+  pub flags : length g ≡ entriesOf w F n
+  pub first : length x ≡ entriesOf w F n
+  pub second : length y ≡ entriesOf w F n
+  pub strengths : length v ≡ F * n * n

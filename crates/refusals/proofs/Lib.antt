@@ -1,0 +1,4 @@
+pub mod MeasureLaws
+pub mod TestLaws
+pub mod PhaseLaws
+pub mod TableLaws

@@ -1,0 +1,108 @@
+-- The phases of one entry of the multiplicities, and of one leg.
+use Prim.Native.Nat.{ℕ, zero, suc, _+_, _*_, _<_, _≤_}
+use native.Mathlib.Omega.{arith}
+use mathlib.Core.Bool.{Bool}
+use mathlib.Core.Path.{_≡_, refl, _∙_}
+use mathlib.Core.List.{List, [], _∷_}
+use lib.IntN.{ℤ, pos}
+use lib.ListN.{getD, drop, length-drop}
+use lib.Seq.{length-take-le, getD-take, getD-drop}
+use lib.Ieee.{Float}
+use Rattle.phonon.specs.Number.{index, int}
+use Rattle.phonon.specs.Trig.{inDomain}
+use Rattle.phonon.specs.Tests.{everyBelow}
+use Rattle.phonon.specs.Sets.{part, Legs}
+use Rattle.phonon.specs.RealToReciprocal.{phase, prePhase, anchorVector}
+use Rattle.phonon.specs.declared.Symmetry.{Symmetry}
+use Rattle.phonon.specs.declared.Symmetry.the-variants.{Off, Symmetrized}
+use Rattle.phonon.specs.Interaction.{orders, leg, exchanged, orderCount}
+use Rattle.real_to_reciprocal.specs.Shape.{Anchored}
+use Rattle.refusals.specs.Phases.{legPhasesFor, prePhasesFor, ordersFor, Anchors, Located}
+
+module _ (q vectors : List Float) where
+  -- vector i of those from `start` on
+  abbrev pub vectorFine : ℕ → ℕ → Bool
+  vectorFine start i = inDomain (phase q vectors (start + i))
+
+  -- each vector of entry k of the multiplicities
+  abbrev pub entryFine : List ℤ → ℕ → Bool
+  entryFine multiplicity k = everyBelow (vectorFine (index (int multiplicity (2 * k + 1)))) (index (int multiplicity (2 * k)))
+
+  pub entry-is : (multiplicity : List ℤ) (k : ℕ) {count start : ℕ} → count ≡ index (int multiplicity (2 * k)) → start ≡ index (int multiplicity (2 * k + 1))
+      → everyBelow (vectorFine start) count ≡ entryFine multiplicity k
+  entry-is multiplicity k e f = rw (e, f)
+
+  pub leg-is : (multiplicity : List ℤ) (n : ℕ) → everyBelow (entryFine multiplicity) n ≡ legPhasesFor vectors multiplicity n q
+  unfolding legPhasesFor
+  leg-is multiplicity n = refl
+
+-- atom i, with the three q in one order
+abbrev pub atomFine : ℕ → List Float → List ℤ → List ℤ → Legs (List Float) → ℕ → Bool
+atomFine P vectors multiplicity p2s q i = inDomain (prePhase vectors q (anchorVector P multiplicity p2s i))
+
+pub atoms-are : (P : ℕ) (vectors : List Float) (multiplicity p2s : List ℤ) (q : Legs (List Float))
+    → everyBelow (atomFine P vectors multiplicity p2s q) P ≡ prePhasesFor P vectors multiplicity p2s q
+unfolding prePhasesFor
+atoms-are P vectors multiplicity p2s q = refl
+
+-- order o of the legs
+abbrev pub orderFine : ℕ → List Float → List ℤ → List ℤ → Legs (List Float) → ℕ → Bool
+orderFine P vectors multiplicity p2s q o = prePhasesFor P vectors multiplicity p2s (exchanged o q)
+
+pub orders-are : (P : ℕ) (symmetry : Symmetry) (vectors : List Float) (multiplicity p2s : List ℤ) (q : Legs (List Float))
+    → everyBelow (orderFine P vectors multiplicity p2s q) (orderCount symmetry) ≡ ordersFor P symmetry vectors multiplicity p2s q
+unfolding ordersFor
+orders-are P symmetry vectors multiplicity p2s q = refl
+
+pub count-most : (symmetry : Symmetry) → orderCount symmetry ≤ 6
+count-most Off = omega arith
+count-most Symmetrized = omega arith
+
+-- place k of order o
+abbrev pub place : ℕ → ℕ → ℕ
+place o k = getD (getD orders o []) k 0
+
+-- each place of the table is the number of a leg
+pub record Places (o : ℕ) : Type 0 where
+  pub first : place o 0 < 3
+  pub second : place o 1 < 3
+  pub third : place o 2 < 3
+
+pub places : (o : ℕ) → Places o
+unfolding orders
+places zero = record { first = omega arith; second = omega arith; third = omega arith }
+places (suc zero) = record { first = omega arith; second = omega arith; third = omega arith }
+places (suc (suc zero)) = record { first = omega arith; second = omega arith; third = omega arith }
+places (suc (suc (suc zero))) = record { first = omega arith; second = omega arith; third = omega arith }
+places (suc (suc (suc (suc zero)))) = record { first = omega arith; second = omega arith; third = omega arith }
+places (suc (suc (suc (suc (suc zero))))) = record { first = omega arith; second = omega arith; third = omega arith }
+places (suc (suc (suc (suc (suc (suc o)))))) = record { first = omega arith; second = omega arith; third = omega arith }
+
+leg-at : {A : Type 0} (a b c d : A) (x : ℕ) → x < 3 → getD (a ∷ (b ∷ (c ∷ []))) x d ≡ leg (record { leg0 = a; leg1 = b; leg2 = c }) x
+leg-at a b c d zero h = refl
+leg-at a b c d (suc zero) h = refl
+leg-at a b c d (suc (suc zero)) h = refl
+leg-at a b c d (suc (suc (suc x))) h = absurd (omega arith)
+
+-- the legs that order o picks from an array of the three
+pub exchanged-is : (a b c : List Float) (o : ℕ)
+    → _≡_ {A = Legs (List Float)}
+    (record { leg0 = getD (a ∷ (b ∷ (c ∷ []))) (place o 0) []; leg1 = getD (a ∷ (b ∷ (c ∷ []))) (place o 1) []; leg2 = getD (a ∷ (b ∷ (c ∷ []))) (place o 2) [] })
+    (exchanged o (record { leg0 = a; leg1 = b; leg2 = c }))
+unfolding exchanged
+exchanged-is a b c o =
+    let p = places o in
+    rw (leg-at a b c [] (place o 0) (p .first), leg-at a b c [] (place o 1) (p .second), leg-at a b c [] (place o 2) (p .third)) refl
+
+-- the points of triplet t of a list of m
+pub part-located : {m : ℕ} {triplets addresses : List ℤ} (t : ℕ) → Located (m * 3) triplets addresses → t < m → Located 3 (part 3 t triplets) addresses
+part-located {m} {triplets} {addresses} t h l =
+    record {
+      enough = omega (arith, length-take-le 3 (drop (t * 3) triplets) (omega (arith, h .enough, length-drop (t * 3) triplets)));
+      addressed = λ k b.
+          let e : int (part 3 t triplets) k ≡ int triplets (t * 3 + k) = getD-take 3 (drop (t * 3) triplets) k (pos 0) b ∙ getD-drop (t * 3) triplets k (pos 0) in
+          rw e (h .addressed (t * 3 + k) (omega arith));
+    }
+
+pub anchored : {P S : ℕ} {vectors : List Float} {multiplicity p2s : List ℤ} → Anchors P S vectors multiplicity p2s → Anchored vectors multiplicity p2s P
+anchored {S = S} h = record { supercell = S; some = h .some; atoms = h .atoms; anchors = h .anchors; ranged = h .ranged }

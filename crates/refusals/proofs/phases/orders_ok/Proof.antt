@@ -1,0 +1,151 @@
+-- Every order before number o is fine.
+use Prim.Native.Nat.{ℕ, _-_, _≤_, _<_}
+use native.Mathlib.Omega.{arith}
+use mathlib.Core.Path.{_≡_, sym, ap, _∙_}
+use mathlib.Core.Bool.{Bool, true}
+use mathlib.Core.List.{[]}
+use lib.ListN.{getD}
+use borrow.Author.Needs.{needs}
+use borrow.Author.Tests.{not-true, not-false}
+use Rattle.phonon.specs.Tests.{everyBelow}
+use Rattle.phonon.specs.Interaction.{orders}
+use Rattle.checks.proofs.Laws.{every-bad}
+use Rattle.refusals.specs.Phases.{ordersFor}
+use Rattle.refusals.proofs.TestLaws.{every-none, every-next}
+use Rattle.refusals.proofs.PhaseLaws.{orderFine, orders-are, count-most, places, exchanged-is}
+use Rattle.refusals.proofs.phases.orders_ok.Statement.{statement}
+use Rattle.refusals.proofs.phases.orders_ok.Tie as tie
+
+abbrev Inv-loop : tie.InvT-loop
+Inv-loop vectors multiplicity p2s atoms q count o₀ o =
+    (o ≤ count) × (everyBelow (orderFine atoms vectors multiplicity p2s (record { leg0 = getD q 0 []; leg1 = getD q 1 []; leg2 = getD q 2 [] })) o ≡ true)
+
+abbrev μ-loop : tie.MeasureT-loop
+μ-loop vectors multiplicity p2s atoms q count o₀ o = count - o
+
+abbrev fine : tie.Start Inv-loop μ-loop → ℕ → Bool
+fine s = orderFine (s .args .atoms) (s .args .vectors .now) (s .args .multiplicity .now) (s .args .p2s .now) (record { leg0 = s .args .q0; leg1 = s .args .q1; leg2 = s .args .q2 })
+
+order-in : (c : tie.In-loop Inv-loop μ-loop) → c .before .loop .o < 6
+order-in c = omega (arith, c .loop-test .taken, c .before .before .order-count .ensures, count-most (c .before .before .before .before .args .symmetry))
+
+-- the orders that are counted are all that are used
+all-told :
+    (c : tie.After-order-count Inv-loop μ-loop)
+    → everyBelow (fine (c .before .before)) (c .order-count .result)
+    ≡ ordersFor
+    (c .before .before .args .atoms)
+    (c .before .before .args .symmetry)
+    (c .before .before .args .vectors .now)
+    (c .before .before .args .multiplicity .now)
+    (c .before .before .args .p2s .now)
+    (record { leg0 = c .before .before .args .q0; leg1 = c .before .before .args .q1; leg2 = c .before .before .args .q2 })
+all-told c = ap (everyBelow (fine (c .before .before))) (c .order-count .ensures) ∙ orders-are _ _ _ _ _ _
+
+abbrev start-of : tie.After-pre-phases-ok Inv-loop μ-loop → tie.Start Inv-loop μ-loop
+start-of c = c .before .before .before .before .before .before .before .before .before .before .before .before
+
+-- what the call told of the order
+tested : (c : tie.After-pre-phases-ok Inv-loop μ-loop) → c .pre-phases-ok .result ≡ fine (start-of c) (c .before .before .before .before .before .before .before .before .before .loop .o)
+unfolding orders
+tested c =
+    let s = start-of c in
+    rw (exchanged-is (s .args .q0) (s .args .q1) (s .args .q2) (c .before .before .before .before .before .before .before .before .before .loop .o)) at (c .pre-phases-ok .ensures)
+
+order-count-requires : tie.Need-order-count-requires Inv-loop μ-loop
+order-count-requires c κs = search needs
+
+loop-holds : tie.Need-loop-holds Inv-loop μ-loop
+loop-holds c = (omega arith, every-none (fine (c .before .before)))
+
+mul-order : tie.Need-mul-order Inv-loop μ-loop
+mul-order c = omega (arith, order-in c)
+
+array-copy-out-order : tie.Need-array-copy-out-order Inv-loop μ-loop
+array-copy-out-order c = order-in c
+
+array-read-a : tie.Need-array-read-a Inv-loop μ-loop
+array-read-a c = omega arith
+
+mul-a : tie.Need-mul-a Inv-loop μ-loop
+unfolding orders
+mul-a c = omega (arith, places (c .before .before .loop .o) .first)
+
+array-copy-out-a : tie.Need-array-copy-out-a Inv-loop μ-loop
+unfolding orders
+array-copy-out-a c = places (c .before .before .loop .o) .first
+
+array-read-b : tie.Need-array-read-b Inv-loop μ-loop
+array-read-b c = omega arith
+
+mul-b : tie.Need-mul-b Inv-loop μ-loop
+unfolding orders
+mul-b c = omega (arith, places (c .before .before .before .loop .o) .second)
+
+array-copy-out-b : tie.Need-array-copy-out-b Inv-loop μ-loop
+unfolding orders
+array-copy-out-b c = places (c .before .before .before .loop .o) .second
+
+array-read-c : tie.Need-array-read-c Inv-loop μ-loop
+array-read-c c = omega arith
+
+mul-c : tie.Need-mul-c Inv-loop μ-loop
+unfolding orders
+mul-c c = omega (arith, places (c .before .before .before .before .loop .o) .third)
+
+array-copy-out-c : tie.Need-array-copy-out-c Inv-loop μ-loop
+unfolding orders
+array-copy-out-c c = places (c .before .before .before .before .loop .o) .third
+
+pre-phases-ok-requires : tie.Need-pre-phases-ok-requires Inv-loop μ-loop
+pre-phases-ok-requires c κs = c .before .before .before .before .before .before .before .before .before .before .before .pre
+
+returns : tie.Need-returns Inv-loop μ-loop
+returns c =
+    let d = c .before in
+    let s = start-of d in
+    let l = d .before .before .before .before .before .before .before .before in
+    sym (every-bad (fine s) (l .before .before .order-count .result) (l .before .loop .o) (l .loop-test .taken) (sym (tested d) ∙ not-true _ (c .if1 .taken))) ∙ all-told (l .before .before)
+
+add-o : tie.Need-add-o Inv-loop μ-loop
+add-o c = omega (arith, order-in (c .before .before .before .before .before .before .before .before .before))
+
+loop-less : tie.Need-loop-less Inv-loop μ-loop
+loop-less c = omega (arith, c .before .before .before .before .before .before .before .before .before .loop-test .taken)
+
+loop-again : tie.Need-loop-again Inv-loop μ-loop
+loop-again c =
+    let d = c .before in
+    let l = d .before .before .before .before .before .before .before .before in
+    (omega (arith, l .loop-test .taken), every-next (fine (start-of d)) (l .before .loop .o) (l .before .loop .inv .1) (sym (tested d) ∙ not-false _ (c .if1 .left)))
+
+returns-2 : tie.Need-returns-2 Inv-loop μ-loop
+returns-2 c =
+    let all : c .before .loop .o ≡ c .before .before .order-count .result = omega arith in
+    sym (rw all at (c .before .loop .inv .1)) ∙ all-told (c .before .before)
+
+pub orders-ok-spec : {M : Type 1} → statement M
+orders-ok-spec =
+    tie.close
+    (tie.spec
+    Inv-loop
+    μ-loop
+    order-count-requires
+    loop-holds
+    mul-order
+    array-copy-out-order
+    array-read-a
+    mul-a
+    array-copy-out-a
+    array-read-b
+    mul-b
+    array-copy-out-b
+    array-read-c
+    mul-c
+    array-copy-out-c
+    pre-phases-ok-requires
+    returns
+    add-o
+    loop-less
+    loop-again
+    returns-2)

@@ -1,0 +1,77 @@
+-- Each call told one of the tests, at the q of one leg.
+use native.Mathlib.Omega.{arith}
+use mathlib.Core.Path.{refl}
+use Rattle.phonon.specs.Tests.{allTrue, allTrueAfter}
+use Rattle.refusals.specs.Phases.{phasesFor}
+use Rattle.refusals.proofs.PhaseLaws.{anchored}
+use borrow.Author.Needs.{needs}
+use Rattle.refusals.proofs.phases.phases_ok.Statement.{statement}
+use Rattle.refusals.proofs.phases.phases_ok.Tie as tie
+
+index-at-requires : tie.Need-index-at-requires
+index-at-requires c κs = search needs
+
+compute-q-vec-requires : tie.Need-compute-q-vec-requires
+compute-q-vec-requires c κs = rw (c .index-at .ensures) (c .before .before .pre .0 .addressed 0 (omega arith))
+
+index-at-requires-2 : tie.Need-index-at-requires-2
+index-at-requires-2 c κs = search needs
+
+compute-q-vec-requires-2 : tie.Need-compute-q-vec-requires-2
+compute-q-vec-requires-2 c κs = rw (c .index-at2 .ensures) (c .before .before .before .before .pre .0 .addressed 1 (omega arith))
+
+index-at-requires-3 : tie.Need-index-at-requires-3
+index-at-requires-3 c κs = search needs
+
+compute-q-vec-requires-3 : tie.Need-compute-q-vec-requires-3
+compute-q-vec-requires-3 c κs = rw (c .index-at3 .ensures) (c .before .before .before .before .before .before .pre .0 .addressed 2 (omega arith))
+
+mul-entries : tie.Need-mul-entries
+mul-entries c = search needs
+
+leg-phases-ok-requires : tie.Need-leg-phases-ok-requires
+leg-phases-ok-requires c κs = search needs
+
+leg-phases-ok-requires-2 : tie.Need-leg-phases-ok-requires-2
+leg-phases-ok-requires-2 c κs = search needs
+
+leg-phases-ok-requires-3 : tie.Need-leg-phases-ok-requires-3
+leg-phases-ok-requires-3 c κs = search needs
+
+orders-ok-requires : tie.Need-orders-ok-requires
+orders-ok-requires c κs = anchored (c .before .before .before .before .before .before .before .before .before .before .before .before .before .pre .1)
+
+returns : tie.Need-returns
+unfolding phasesFor allTrue allTrueAfter
+returns c =
+    let b = c .before .before .before .before .before .before .before in
+    rw (
+      c .before .before .before .before .before .leg-phases-ok .ensures,
+      c .before .before .before .leg-phases-ok2 .ensures,
+      c .before .leg-phases-ok3 .ensures,
+      c .orders-ok .ensures,
+      b .before .before .before .before .compute-q-vec .ensures,
+      b .before .before .compute-q-vec2 .ensures,
+      b .compute-q-vec3 .ensures,
+      b .before .before .before .before .before .index-at .ensures,
+      b .before .before .before .index-at2 .ensures,
+      b .before .index-at3 .ensures,
+    )
+    refl
+
+pub phases-ok-spec : {M : Type 1} → statement M
+phases-ok-spec =
+    tie.close
+    (tie.spec
+    index-at-requires
+    compute-q-vec-requires
+    index-at-requires-2
+    compute-q-vec-requires-2
+    index-at-requires-3
+    compute-q-vec-requires-3
+    mul-entries
+    leg-phases-ok-requires
+    leg-phases-ok-requires-2
+    leg-phases-ok-requires-3
+    orders-ok-requires
+    returns)

@@ -1,0 +1,3 @@
+pub mod Answers
+pub mod Slices
+pub mod Phases

@@ -1,0 +1,24 @@
+// Document 01's refusals 1 to 9: every test of a set, in order, before any work.
+pub mod joined;
+pub mod lengths;
+pub mod limits;
+pub mod list;
+pub mod measures;
+pub mod phases;
+pub mod tables;
+pub mod triplet;
+
+use phonon::Sizes;
+
+// What the measures are found to be: within their limits, with the sizes that they fix, or beyond them.
+pub enum Measured {
+    Within(Sizes),
+    Beyond,
+}
+
+// What a set is found to be: fit for work, with the sizes of its slices, or refused with document 01's
+// number.
+pub enum Checked {
+    Good(Sizes),
+    Bad(u8),
+}

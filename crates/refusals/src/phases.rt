@@ -1,0 +1,174 @@
+// Number 9: every phase that the work computes lies within the domain of the sine and cosine.
+use crate::limits;
+use phonon::Symmetry;
+use real_to_reciprocal::entries::index_at;
+use real_to_reciprocal::phases::compute_q_vec;
+use real_to_reciprocal::phases::phase;
+use real_to_reciprocal::phases::pre_phase;
+ghost use mathlib.Core.Path.{_≡_};
+ghost use Prim.Native.Nat.{_*_};
+ghost use Rattle.phonon.specs.Tests.{everyBelow};
+ghost use Rattle.phonon.specs.Trig.{inDomain};
+ghost use Rattle.phonon.specs.Interaction.{orderCount};
+ghost use Rattle.real_to_reciprocal.specs.Shape.{Anchored, Ranged};
+ghost use Rattle.refusals.specs.Phases.{legPhasesFor, prePhasesFor, ordersFor, phasesFor, legsAt, tripletFine, Anchors, Located};
+
+// The six orders of the legs.
+pub const INDEX_EXCHANGE: [[usize; 3]; 6] = [
+    [0, 1, 2],
+    [2, 0, 1],
+    [1, 2, 0],
+    [2, 1, 0],
+    [0, 2, 1],
+    [1, 0, 2],
+];
+
+fn in_domain(x: f64) -> bool
+    ensures { λ r. ⌜ r ≡ inDomain x ⌝ }
+{
+    (limits::LOWEST_PHASE <= x) & (x <= limits::HIGHEST_PHASE)
+}
+
+// Each vector of each entry of the multiplicities, at one q.
+fn leg_phases_ok(q: &[f64; 3], vectors: &[f64], multiplicity: &[i64], entries: usize) -> bool
+    requires { ⌜ Ranged (now vectors) (now multiplicity) entries ⌝ }
+    ensures { λ r. ⌜ r ≡ legPhasesFor (now (vectors .entry)) (now (multiplicity .entry)) entries (now (q .entry)) ⌝ }
+{
+    let mut good = true;
+    'entries: for n in 0..entries {
+        let count = index_at(multiplicity, 2 * n);
+        let start = index_at(multiplicity, 2 * n + 1);
+        for i in 0..count {
+            let x = phase(q, vectors, start + i);
+            if !in_domain(x) {
+                good = false;
+                break 'entries;
+            }
+        }
+    }
+    good
+}
+
+// Each atom, with the three q in one order.
+fn pre_phases_ok(
+    q0: &[f64; 3],
+    q1: &[f64; 3],
+    q2: &[f64; 3],
+    vectors: &[f64],
+    multiplicity: &[i64],
+    p2s: &[i64],
+    atoms: usize,
+) -> bool
+    requires { ⌜ Anchored (now vectors) (now multiplicity) (now p2s) atoms ⌝ }
+    ensures { λ r. ⌜ r ≡ prePhasesFor atoms (now (vectors .entry)) (now (multiplicity .entry)) (now (p2s .entry)) (record { leg0 = now (q0 .entry); leg1 = now (q1 .entry); leg2 = now (q2 .entry) }) ⌝ }
+{
+    for i in 0..atoms {
+        let n = 2 * (index_at(p2s, i) * atoms) + 1;
+        let x = pre_phase(vectors, q0, q1, q2, index_at(multiplicity, n));
+        if !in_domain(x) {
+            return false;
+        }
+    }
+    true
+}
+
+fn order_count(symmetry: Symmetry) -> usize
+    ensures { λ r. ⌜ r ≡ orderCount symmetry ⌝ }
+{
+    match symmetry {
+        Symmetry::Off => 1,
+        Symmetry::Symmetrized => 6,
+    }
+}
+
+// Each order of the legs that is used, read in turn from the table.
+fn orders_ok(
+    q0: [f64; 3],
+    q1: [f64; 3],
+    q2: [f64; 3],
+    symmetry: Symmetry,
+    vectors: &[f64],
+    multiplicity: &[i64],
+    p2s: &[i64],
+    atoms: usize,
+) -> bool
+    requires { ⌜ Anchored (now vectors) (now multiplicity) (now p2s) atoms ⌝ }
+    ensures { λ r. ⌜ r ≡ ordersFor atoms symmetry (now (vectors .entry)) (now (multiplicity .entry)) (now (p2s .entry)) (record { leg0 = q0; leg1 = q1; leg2 = q2 }) ⌝ }
+{
+    let q = [q0, q1, q2];
+    let count = order_count(symmetry);
+    for o in 0..count {
+        let order = INDEX_EXCHANGE[o];
+        let a = q[order[0]];
+        let b = q[order[1]];
+        let c = q[order[2]];
+        if !pre_phases_ok(&a, &b, &c, vectors, multiplicity, p2s, atoms) {
+            return false;
+        }
+    }
+    true
+}
+
+// One triplet: its three legs, and each order of them that is used.
+pub fn phases_ok(
+    atoms: usize,
+    supercell: usize,
+    symmetry: Symmetry,
+    mesh: [i64; 3],
+    matrix: [i64; 9],
+    points: &[i64],
+    addresses: &[i64],
+    vectors: &[f64],
+    multiplicity: &[i64],
+    p2s: &[i64],
+) -> bool
+    requires { ⌜ Located 3 (now points) (now addresses) × Anchors atoms supercell (now vectors) (now multiplicity) (now p2s) ⌝ }
+    ensures { λ r. ⌜ r ≡ phasesFor atoms supercell symmetry (now (vectors .entry)) (now (multiplicity .entry)) (now (p2s .entry)) (legsAt (record { mesh = mesh; matrix = matrix; addresses = now (addresses .entry) }) (now (points .entry))) ⌝ }
+{
+    let q0 = compute_q_vec(mesh, matrix, addresses, index_at(points, 0));
+    let q1 = compute_q_vec(mesh, matrix, addresses, index_at(points, 1));
+    let q2 = compute_q_vec(mesh, matrix, addresses, index_at(points, 2));
+    let entries = supercell * atoms;
+    leg_phases_ok(&q0, vectors, multiplicity, entries)
+        & leg_phases_ok(&q1, vectors, multiplicity, entries)
+        & leg_phases_ok(&q2, vectors, multiplicity, entries)
+        & orders_ok(q0, q1, q2, symmetry, vectors, multiplicity, p2s, atoms)
+}
+
+// Each triplet of a list.
+pub fn list_phases_ok(
+    atoms: usize,
+    supercell: usize,
+    symmetry: Symmetry,
+    mesh: [i64; 3],
+    matrix: [i64; 9],
+    list: usize,
+    triplets: &[i64],
+    addresses: &[i64],
+    vectors: &[f64],
+    multiplicity: &[i64],
+    p2s: &[i64],
+) -> bool
+    requires { ⌜ Located (list * 3) (now triplets) (now addresses) × Anchors atoms supercell (now vectors) (now multiplicity) (now p2s) ⌝ }
+    ensures { λ r. ⌜ r ≡ everyBelow (tripletFine atoms supercell symmetry (record { mesh = mesh; matrix = matrix; addresses = now (addresses .entry) }) (now (vectors .entry)) (now (multiplicity .entry)) (now (p2s .entry)) (now (triplets .entry))) list ⌝ }
+{
+    for t in 0..list {
+        let first = t * 3;
+        let points = &triplets[first..first + 3];
+        if !phases_ok(
+            atoms,
+            supercell,
+            symmetry,
+            mesh,
+            matrix,
+            points,
+            addresses,
+            vectors,
+            multiplicity,
+            p2s,
+        ) {
+            return false;
+        }
+    }
+    true
+}
