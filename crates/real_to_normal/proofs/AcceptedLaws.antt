@@ -1,6 +1,6 @@
 -- What the work needs of an accepted set: the ranges of its indices, and the room of its tables and of the work buffer.
 use mathlib.Core.Path.{_≡_, refl, sym, ap, _∙_}
-use mathlib.Core.List.{List}
+use mathlib.Core.List.{List, [], _∷_}
 use Prim.Native.Nat.{ℕ, zero, suc, _+_, _-_, _*_, _^_, _<_, _≤_}
 use native.Mathlib.Nat.{mul-assoc, mul-le-mul, mul-le-mul-right}
 use native.Mathlib.Numerals.{add-one}
@@ -37,6 +37,12 @@ pub work-small : (P S : ℕ) → P ≤ 8 → S ≤ 64 → (P * P ≤ 64) × (P *
 work-small P S p s =
     let a : P * P ≤ 64 = mul-le-mul p p in
     (a, mul-le-mul a p, mul-le-mul p s)
+
+-- past the end of a table stands 0
+in-range : (G : ℕ) (l : List ℤ) → 0 < G → ((k : ℕ) → k < length l → index (int l k) < G) → (x : ℕ) → index (int l x) < G
+in-range G [] p f x = p
+in-range G (z ∷ l) p f zero = f 0 (omega arith)
+in-range G (z ∷ l) p f (suc x) = in-range G l p (λ k h. f (suc k) (omega arith)) x
 
 module _ (s : TripletSet) (e : tripletRefusal s ≡ 0) where
   abbrev P : ℕ
@@ -77,13 +83,13 @@ module _ (s : TripletSet) (e : tripletRefusal s ≡ 0) where
   room = omega (arith, end-fits P S (facts .measured .atoms), facts .work)
 
   -- a grid point of the triplet
-  module _ (x : ℕ) (h : x < length (s .triplet)) where
+  module _ (x : ℕ) where
     abbrev g : ℕ
     g = index (int (s .triplet) x)
 
     pub point-lt : g < s .tables .measures .grid
     unfolding pointsOk
-    point-lt = band-lt (s .tables .measures .grid) (s .triplet) x (facts .measured .grid) (facts .points) h
+    point-lt = in-range (s .tables .measures .grid) (s .triplet) (facts .measured .grid) (λ k h. band-lt (s .tables .measures .grid) (s .triplet) k (facts .measured .grid) (facts .points) h) x
 
     pub address-fits : 3 * g + 3 ≤ length (s .tables .grid .addresses)
     address-fits = omega (arith, point-lt, facts .sized .addresses)

@@ -19,7 +19,6 @@ use Rattle.real_to_normal.specs.Work.{columnsAt, factorsAt, preAt, Prepa
 
 -- ---- scaled eigenvectors
 
-
 module _ (P : ℕ) (eig : List Float) (g0 g1 g2 : ℕ) {l l₁ l₂ l₃ : List Float} (room : P ≤ length l)
     (s₀ : (n : ℕ) → n < 3 * P → columnIn l₁ P (3 * P) n ≡ column (3 * P) eig (take P (drop 0 l)) g0 n)
     (k₀ : Kept l l₁ P (P + 2 * (3 * P * (3 * P))))

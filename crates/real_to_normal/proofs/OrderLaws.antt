@@ -46,7 +46,7 @@ module _ (P S : ℕ) (a : Anchoring) (c : Forces) (vectors : List Float) (multip
     (w : WroteSplit l l₁ (preAt P S) P P (preFactorEntry P vectors multiplicity (c .p2s) (record { leg0 = q0; leg1 = q1; leg2 = q2 })))
     {g0 g1 g2 : ℕ} (h0 : g0 ≡ factorsAt P S x0) (h1 : g1 ≡ factorsAt P S x1) (h2 : g2 ≡ factorsAt P S x2)
     (r : constantsIn l₂ (constantsAt P S) P ≡ reciprocalFrom P S a c (numbersIn l₁ (preAt P S) P P)
-        (record { leg0 = numbersIn l₁ g0 (P * S) (P * S); leg1 = numbersIn l₁ g1 (P * S) (P * S); leg2 = numbersIn l₁ g2 (P * S) (P * S) }))
+    (record { leg0 = numbersIn l₁ g0 (P * S) (P * S); leg1 = numbersIn l₁ g1 (P * S) (P * S); leg2 = numbersIn l₁ g2 (P * S) (P * S) }))
     (k : Kept l₁ l₂ (constantsAt P S) (scratchAt P S)) where
   kept₁ : Kept l l₁ (preAt P S) (constantsAt P S)
   kept₁ = kept-split (preAt P S) (constantsAt P S) (omega arith) (omega arith) refl w

@@ -52,7 +52,7 @@ module _ (P S : ℕ) (a : Anchoring) (c : Forces) (vectors : List Float) (multip
   pub six-turn : (o : ℕ) {l₁ out out′ : List Float} {order : List ℕ} → o < 6 → Kept l l₁ (preAt P S) (endAt P S) → order ≡ getD orders o []
       → out ≡ table N (summed o)
       → out′ ≡ table N (λ m. cond (flagged flags m) (at out m) (at out m ⊕ strength P (reciprocalOf P S a c vectors multiplicity (picked q (getD order 0 0) (getD order 1 0) (getD order 2 0)))
-        (slotIn l₁ P frequencies g bands (getD order 0 0) (getD order 1 0) (getD order 2 0) m) cutoff ⊘ f6))
+      (slotIn l₁ P frequencies g bands (getD order 0 0) (getD order 1 0) (getD order 2 0) m) cutoff ⊘ f6))
       → out′ ≡ table N (summed (o + 1))
   unfolding sixthOf exchanged
   six-turn o {l₁} {out} {out′} {order} h k eo e r =

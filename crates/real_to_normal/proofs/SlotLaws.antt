@@ -67,7 +67,10 @@ module _ (P S : ℕ) (frequencies : List Float) (g : Legs ℕ) {l l₁ : List Fl
       → e0 ≡ columnsAt P 0 → e1 ≡ columnsAt P 1 → e2 ≡ columnsAt P 2
       → f0 ≡ take (3 * P) (drop (g .leg0 * (3 * P)) frequencies) → f1 ≡ take (3 * P) (drop (g .leg1 * (3 * P)) frequencies) → f2 ≡ take (3 * P) (drop (g .leg2 * (3 * P)) frequencies)
       → out ≡ table (length bands * (3 * P) * (3 * P)) (λ m. cond (flagged flags m) (at before m) (strength P (constantsIn l₁ fo P) (record {
-        leg0 = phononIn l₁ e0 (3 * P) f0 (index (int bands (m / (3 * P) / (3 * P)))); leg1 = phononIn l₁ e1 (3 * P) f1 (m / (3 * P) % (3 * P)); leg2 = phononIn l₁ e2 (3 * P) f2 (m % (3 * P)) }) cutoff))
+        leg0 = phononIn l₁ e0 (3 * P) f0 (index (int bands (m / (3 * P) / (3 * P))));
+        leg1 = phononIn l₁ e1 (3 * P) f1 (m / (3 * P) % (3 * P));
+        leg2 = phononIn l₁ e2 (3 * P) f2 (m % (3 * P));
+      }) cutoff))
       → out ≡ table (length bands * (3 * P) * (3 * P)) (λ m. cond (flagged flags m) (at before m) (strength P constants (slotIn l P frequencies g bands 0 1 2 m) cutoff))
   plain-is bands flags before constants cutoff fo {e0 = e0} {e1} {e2} {f0} {f1} {f2} p w ec h0 h1 h2 i0 i1 i2 r =
       r ∙ table-ext (length bands * (3 * P) * (3 * P)) _ _ (λ m h.
@@ -84,11 +87,14 @@ module _ (P S : ℕ) (frequencies : List Float) (g : Legs ℕ) {l l₁ : List Fl
       → e0 ≡ columnsAt P (getD order 0 0) → e1 ≡ columnsAt P (getD order 1 0) → e2 ≡ columnsAt P (getD order 2 0)
       → f0 ≡ take (3 * P) (drop (leg g (getD order 0 0) * (3 * P)) frequencies) → f1 ≡ take (3 * P) (drop (leg g (getD order 1 0) * (3 * P)) frequencies) → f2 ≡ take (3 * P) (drop (leg g (getD order 2 0) * (3 * P)) frequencies)
       → WroteAbove l₁ l₂ so (so + 2 * (3 * P * (3 * P)) + 2 * (3 * P)) to (3 * P * (3 * P * (3 * P))) (λ n. strength P (constantsIn l₁ fo P) (record {
-        leg0 = phononIn l₁ e0 (3 * P) f0 (n / (3 * P) / (3 * P)); leg1 = phononIn l₁ e1 (3 * P) f1 (n / (3 * P) % (3 * P)); leg2 = phononIn l₁ e2 (3 * P) f2 (n % (3 * P)) }) cutoff)
+        leg0 = phononIn l₁ e0 (3 * P) f0 (n / (3 * P) / (3 * P));
+        leg1 = phononIn l₁ e1 (3 * P) f1 (n / (3 * P) % (3 * P));
+        leg2 = phononIn l₁ e2 (3 * P) f2 (n % (3 * P));
+      }) cutoff)
       → out ≡ table (length bands * (3 * P) * (3 * P)) (λ m. cond (flagged flags m) (at before m)
-        (at before m ⊕ at l₂ (to + sourcePlace (3 * P) order (index (int bands (m / (3 * P) / (3 * P)))) (m / (3 * P) % (3 * P)) (m % (3 * P))) ⊘ f6))
+      (at before m ⊕ at l₂ (to + sourcePlace (3 * P) order (index (int bands (m / (3 * P) / (3 * P)))) (m / (3 * P) % (3 * P)) (m % (3 * P))) ⊘ f6))
       → out ≡ table (length bands * (3 * P) * (3 * P)) (λ m. cond (flagged flags m) (at before m)
-        (at before m ⊕ strength P constants (slotIn l P frequencies g bands (getD order 0 0) (getD order 1 0) (getD order 2 0) m) cutoff ⊘ f6))
+      (at before m ⊕ strength P constants (slotIn l P frequencies g bands (getD order 0 0) (getD order 1 0) (getD order 2 0) m) cutoff ⊘ f6))
   unfolding bOf jOf kOf
   order-gathered order bands flags before constants cutoff fo so to {l₂ = l₂} {e0} {e1} {e2} {f0} {f1} {f2} p w ec o0 o1 o2 h0 h1 h2 i0 i1 i2 s r =
       r ∙ table-ext (length bands * (3 * P) * (3 * P)) _ _ (λ m h.

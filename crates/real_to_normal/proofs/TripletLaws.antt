@@ -1,5 +1,5 @@
 -- The slots as the work leaves them are the definition's strengths, and the work buffer is the definition's.
-use mathlib.Core.Path.{_≡_, refl, sym, ap, _∙_}
+use mathlib.Core.Path.{_≡_, refl, sym, ap, ap₂, _∙_}
 use mathlib.Core.Bool.{Bool, true, false, cond}
 use mathlib.Core.List.{List, [], _∷_, _++_}
 use Prim.Native.Nat.{ℕ, zero, suc, _+_, _-_, _*_, _/_, _%_, _<_, _≤_}
@@ -11,6 +11,7 @@ use lib.ListN.{length, getD, take, drop, set, replicate}
 use lib.Seq.{getD-take, getD-drop}
 use lib.Ieee.{Float, nan}
 use Rattle.phonon.specs.declared.Anchoring.{Anchoring}
+use Rattle.phonon.specs.declared.Measures.{Measures}
 use Rattle.phonon.specs.declared.Symmetry.{Symmetry}
 use Rattle.phonon.specs.declared.Symmetry.the-variants.{Off, Symmetrized}
 use Rattle.phonon.specs.Number.{_⊕_, _⊘_, f0, f6, at, index, int, flagged, fold, table}
@@ -19,8 +20,12 @@ use Rattle.phonon.specs.Tests.{allWithin}
 use Rattle.phonon.specs.RealToReciprocal.{reciprocal}
 use Rattle.phonon.specs.ReciprocalToNormal.{inverseRoots, Phonon, phononAt, strength}
 use Rattle.phonon.specs.Interaction.{orders, leg, exchanged, legQ, point, orderCount, reciprocals, sixth, value, flaggedValue, phononsAt, strengthWith, slotWith, strengthsWith, strengths}
+use Rattle.phonon.specs.Limits.{workLength}
+use Rattle.phonon.specs.Doors.{cleared}
 use Rattle.phonon.proofs.Laws.{fold-ext, table-ext, table-at}
 use Rattle.planes.specs.Layout.{columnIn, phononIn}
+use Rattle.planes.specs.Region.{Kept}
+use Rattle.planes.proofs.WorkLaws.{drop-kept}
 use Rattle.reciprocal_to_normal.specs.Slots.{bOf, jOf, kOf}
 use Rattle.reciprocal_to_normal.proofs.SlotLaws.{slot-of}
 use Rattle.real_to_normal.specs.Work.{Prepared, picked, reciprocalOf, legIn, bandsOfSlot, slotIn, sixthOf, slotPhonons, slotValue}
@@ -130,3 +135,17 @@ module _ (t : Triplet) (before : List Float) where
   strengths-are e r =
       r ∙ ap (λ (k : ℕ). table (k * (3 * m) * (3 * m)) (λ n. slotValue (t .tables .symmetry) constantsAt m (legQ t) (slotPhonons m inverse (t .tables .phonons) legPoints (t .tables .bands) n) (t .tables .settings .cutoff) (t .flags) (at before n) n)) e
       ∙ table-ext (slots (t .tables .measures)) _ _ (λ n h. slot-value n)
+
+  -- the same, with the legs' points and q as the work has them
+  pub strengths-from : {out : List Float} (g : Legs ℕ) (q : Legs (List Float)) → g ≡ legPoints → q ≡ legQ t → length (t .tables .bands) ≡ t .tables .measures .first
+      → out ≡ table (length (t .tables .bands) * (3 * m) * (3 * m)) (λ n. slotValue (t .tables .symmetry) constantsAt m q (slotPhonons m inverse (t .tables .phonons) g (t .tables .bands) n) (t .tables .settings .cutoff) (t .flags) (at before n) n)
+      → out ≡ strengths t before
+  strengths-from g q eg eq e r =
+      strengths-are e (r ∙ ap₂ (λ (x : Legs ℕ) (y : Legs (List Float)). table (length (t .tables .bands) * (3 * m) * (3 * m)) (λ n. slotValue (t .tables .symmetry) constantsAt m y (slotPhonons m inverse (t .tables .phonons) x (t .tables .bands) n) (t .tables .settings .cutoff) (t .flags) (at before n) n)) eg eq)
+
+-- ---- the work buffer
+
+pub cleared-is : {w w₁ out : List Float} {b : ℕ} (n : ℕ) (m : Measures) → Kept w w₁ 0 b → b ≤ n → n ≡ workLength (m .atoms) (m .supercell) → out ≡ replicate n f0 ++ drop n w₁ → out ≡ cleared m w
+unfolding cleared
+cleared-is {w} n m k h e r =
+    r ∙ ap (λ (d : List Float). replicate n f0 ++ d) (drop-kept k n h) ∙ ap (λ (x : ℕ). replicate x f0 ++ drop x w) e

@@ -4,17 +4,24 @@ use crate::plain::real_to_normal;
 use crate::symmetrized::real_to_normal_sym_q;
 use phonon::Anchoring;
 use phonon::Form;
+use phonon::Measures;
+use phonon::Settings;
 use phonon::Symmetry;
+use planes::index_of;
+use real_to_reciprocal::phases::compute_q_vec;
 ghost use mathlib.Core.Path.{_≡_};
 ghost use mathlib.Core.Bool.{true};
 ghost use mathlib.Core.List.{_++_};
-ghost use Prim.Native.Nat.{_+_, _-_, _*_, _≤_};
+ghost use Prim.Native.Nat.{_+_, _-_, _*_, _^_, _<_, _≤_};
 ghost use lib.IntN.{pos};
 ghost use lib.ListN.{length, drop, replicate};
 ghost use Rattle.phonon.specs.Number.{f0, at, table};
 ghost use Rattle.phonon.specs.Sets.{Legs, Forces, Phonons};
 ghost use Rattle.phonon.specs.Tests.{allWithin};
+ghost use Rattle.phonon.specs.Interaction as Interaction;
 ghost use Rattle.phonon.specs.ReciprocalToNormal.{inverseRoots};
+ghost use Rattle.phonon.specs.Refusal.{tripletRefusal};
+ghost use Rattle.phonon.specs.Doors.{cleared};
 ghost use Rattle.planes.specs.Region.{Kept};
 ghost use Rattle.real_to_reciprocal.specs.Shape.{Ranged, Anchored, Shaped};
 ghost use Rattle.real_to_normal.specs.Work.{endAt, reciprocalOf, slotPhonons, slotValue};
@@ -133,4 +140,123 @@ pub fn slots_of(
             cutoff,
         ),
     }
+}
+
+// W, of np atoms and ns supercell atoms.
+fn work_length(np: usize, ns: usize) -> usize
+    requires { ⌜ 135 * (np * np * np) + 54 * (np * np) + 6 * np * ns + 8 * np < 2 ^ 64 ⌝ }
+    ensures { λ r. ⌜ r ≡ 135 * (np * np * np) + 54 * (np * np) + 6 * np * ns + 8 * np ⌝ }
+{
+    let square = np * np;
+    135 * (square * np) + 54 * square + 6 * np * ns + 8 * np
+}
+
+// The worker of one triplet: the strengths of an accepted set, and the work buffer cleared.
+pub fn work_triplet(
+    m: Measures,
+    settings: Settings,
+    form: Form,
+    symmetry: Symmetry,
+    mesh: [i64; 3],
+    matrix: [i64; 9],
+    triplet: [i64; 3],
+    addresses: &[i64],
+    vectors: &[f64],
+    multiplicity: &[i64],
+    p2s: &[i64],
+    s2p: &[i64],
+    masses: &[f64],
+    bands: &[i64],
+    frequencies: &[f64],
+    eigenvectors: &[f64],
+    shortest: &[u8],
+    nonzero: &[u8],
+    constants: &[f64],
+    flags: &[u8],
+    strengths: &mut [f64],
+    work: &mut [f64],
+)
+    requires { ⌜ tripletRefusal
+        (record {
+          tables = record {
+            measures = m;
+            settings = settings;
+            symmetry = symmetry;
+            crystal = record {
+              vectors = now vectors;
+              multiplicity = now multiplicity;
+              masses = now masses;
+              forces = record { form = form; p2s = now p2s; s2p = now s2p; shortest = now shortest; nonzero = now nonzero; constants = now constants };
+            };
+            grid = record { mesh = mesh; matrix = matrix; addresses = now addresses };
+            bands = now bands;
+            phonons = record { frequencies = now frequencies; eigenvectors = now eigenvectors };
+          };
+          triplet = triplet;
+          flags = now flags;
+          strengths = now strengths;
+          work = now work;
+        })
+        ≡ 0 ⌝ }
+    ensures { λ _. ⌜ (now (strengths .exit) ≡ Interaction.strengths
+        (record {
+          tables = record {
+            measures = m;
+            settings = settings;
+            symmetry = symmetry;
+            crystal = record {
+              vectors = now (vectors .entry);
+              multiplicity = now (multiplicity .entry);
+              masses = now (masses .entry);
+              forces = record { form = form; p2s = now (p2s .entry); s2p = now (s2p .entry); shortest = now (shortest .entry); nonzero = now (nonzero .entry); constants = now (constants .entry) };
+            };
+            grid = record { mesh = mesh; matrix = matrix; addresses = now (addresses .entry) };
+            bands = now (bands .entry);
+            phonons = record { frequencies = now (frequencies .entry); eigenvectors = now (eigenvectors .entry) };
+          };
+          points = triplet;
+          flags = now (flags .entry);
+        })
+        (now (strengths .entry)))
+        × (now (work .exit) ≡ cleared m (now (work .entry))) ⌝ }
+{
+    let np = m.atoms;
+    let ns = m.supercell;
+    let n = work_length(np, ns);
+    let anchoring = settings.anchoring;
+    let g0 = index_of(triplet[0]);
+    let g1 = index_of(triplet[1]);
+    let g2 = index_of(triplet[2]);
+    let q0 = compute_q_vec(mesh, matrix, addresses, g0);
+    let q1 = compute_q_vec(mesh, matrix, addresses, g1);
+    let q2 = compute_q_vec(mesh, matrix, addresses, g2);
+    slots_of(
+        strengths,
+        flags,
+        work,
+        symmetry,
+        &q0,
+        &q1,
+        &q2,
+        form,
+        anchoring,
+        vectors,
+        multiplicity,
+        p2s,
+        s2p,
+        shortest,
+        nonzero,
+        constants,
+        masses,
+        frequencies,
+        eigenvectors,
+        g0,
+        g1,
+        g2,
+        bands,
+        np,
+        ns,
+        settings.cutoff,
+    );
+    clear_work(work, n);
 }

@@ -168,7 +168,7 @@ loop-less : tie.Need-loop-less Inv-loop3 μ-loop3 Inv-loop2 μ-loop2 Inv-loop μ
 loop-less c = omega arith
 
 loop-again : tie.Need-loop-again Inv-loop3 μ-loop3 Inv-loop2 μ-loop2 Inv-loop μ-loop
-loop-again c = 
+loop-again c =
     let l = c .before .before .before .before .loop in
     let h : l .b < length (l .totals) = omega arith in (
       omega arith,
@@ -181,7 +181,7 @@ same-length : tie.Need-same-length Inv-loop3 μ-loop3 Inv-loop2 μ-loop2 Inv-loo
 same-length c = c .before .loop .inv .2
 
 returns : tie.Need-returns Inv-loop3 μ-loop3 Inv-loop2 μ-loop2 Inv-loop μ-loop
-returns c = 
+returns c =
     let e : c .before .loop .b ≡ length (c .before .before .before .before .before .before .before .args .totals .now) = omega arith in
     filled-table (c .before .loop .inv .2) (rw e at (c .before .loop .inv .3))
 

@@ -1,3 +1,4 @@
+-- Three calls, each of its own stretch of the work buffer; what the first two wrote stays.
 use mathlib.Core.List.{List}
 use lib.Ieee.{Float}
 use Rattle.phonon.specs.Sets.{Legs}
@@ -6,70 +7,52 @@ use native.Mathlib.Omega.{arith}
 use borrow.Author.Needs.{needs}
 use Rattle.real_to_normal.proofs.legs.factor_legs.Statement.{statement}
 use Rattle.real_to_normal.proofs.legs.factor_legs.Tie as tie
-use Rattle.real_to_normal.proofs.legs.factor_legs.Reads as reads
-use Rattle.real_to_normal.proofs.legs.factor_legs.Lts as lts
-use Rattle.real_to_reciprocal.proofs.phases.phase_factors.Reads as phase-factors-reads
 
--- src/legs.rt:46:13
 mul-d : tie.Need-mul-d
 mul-d c = search needs
 
--- src/legs.rt:46:23
 mul-d-2 : tie.Need-mul-d-2
 mul-d-2 c = search needs
 
--- src/legs.rt:46:13
 mul-d-3 : tie.Need-mul-d-3
 mul-d-3 c = search needs
 
--- src/legs.rt:47:13
 mul-n : tie.Need-mul-n
 mul-n c = search needs
 
--- src/legs.rt:48:19
 mul-f0 : tie.Need-mul-f0
 mul-f0 c = search needs
 
--- src/legs.rt:48:14
 mul-f0-2 : tie.Need-mul-f0-2
 mul-f0-2 c = omega arith
 
 add-f0 : tie.Need-add-f0
 add-f0 c = search needs
 
--- src/legs.rt:49:19
 mul-f1 : tie.Need-mul-f1
 mul-f1 c = search needs
 
--- src/legs.rt:49:14
 add-f1 : tie.Need-add-f1
 add-f1 c = search needs
 
--- src/legs.rt:50:19
 mul-f2 : tie.Need-mul-f2
 mul-f2 c = search needs
 
--- src/legs.rt:50:14
 add-f2 : tie.Need-add-f2
 add-f2 c = search needs
 
--- src/legs.rt:51:5
 phase-factors-requires : tie.Need-phase-factors-requires
 phase-factors-requires c κs = search needs
 
--- src/legs.rt:52:5
 phase-factors-requires-2 : tie.Need-phase-factors-requires-2
 phase-factors-requires-2 c κs = search needs
 
--- src/legs.rt:53:5
 phase-factors-requires-3 : tie.Need-phase-factors-requires-3
 phase-factors-requires-3 c κs = search needs
 
--- src/legs.rt:32:1
 same-length : tie.Need-same-length
 same-length c = search needs
 
--- src/legs.rt:32:1
 returns : tie.Need-returns
 returns c =
     let w3 = c .before .before in

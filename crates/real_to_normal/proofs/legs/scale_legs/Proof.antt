@@ -1,3 +1,4 @@
+-- Three calls, each of its own stretch of the work buffer; what the first two wrote stays.
 use Prim.Native.Nat.{_≤_}
 use lib.ListN.{length}
 use Rattle.real_to_normal.proofs.LegLaws.{legs-scaled, legs-kept}
@@ -5,55 +6,40 @@ use native.Mathlib.Omega.{arith}
 use borrow.Author.Needs.{needs}
 use Rattle.real_to_normal.proofs.legs.scale_legs.Statement.{statement}
 use Rattle.real_to_normal.proofs.legs.scale_legs.Tie as tie
-use Rattle.real_to_normal.proofs.legs.scale_legs.Reads as reads
-use Rattle.real_to_normal.proofs.legs.scale_legs.Lts as lts
-use Rattle.reciprocal_to_normal.proofs.scale.scale_eigenvectors.Reads as scale-eigenvectors-reads
 
--- src/legs.rt:23:13
 mul-d : tie.Need-mul-d
 mul-d c = search needs
 
--- src/legs.rt:23:23
 mul-d-2 : tie.Need-mul-d-2
 mul-d-2 c = search needs
 
--- src/legs.rt:23:13
 mul-d-3 : tie.Need-mul-d-3
 mul-d-3 c = search needs
 
--- src/legs.rt:24:19
 mul-e1 : tie.Need-mul-e1
 mul-e1 c = search needs
 
--- src/legs.rt:24:14
 add-e1 : tie.Need-add-e1
 add-e1 c = search needs
 
--- src/legs.rt:25:19
 mul-e2 : tie.Need-mul-e2
 mul-e2 c = search needs
 
--- src/legs.rt:25:14
 add-e2 : tie.Need-add-e2
 add-e2 c = search needs
 
--- src/legs.rt:26:5
 scale-eigenvectors-requires : tie.Need-scale-eigenvectors-requires
 scale-eigenvectors-requires c κs = search needs
 
--- src/legs.rt:27:5
 scale-eigenvectors-requires-2 : tie.Need-scale-eigenvectors-requires-2
 scale-eigenvectors-requires-2 c κs = search needs
 
--- src/legs.rt:28:5
 scale-eigenvectors-requires-3 : tie.Need-scale-eigenvectors-requires-3
 scale-eigenvectors-requires-3 c κs = search needs
 
--- src/legs.rt:18:1
 same-length : tie.Need-same-length
 same-length c = search needs
 
--- src/legs.rt:18:1
 returns : tie.Need-returns
 returns c =
     let w3 = c .before .before in
@@ -64,9 +50,10 @@ returns c =
     let room : a .np ≤ length (a .w .now) = omega (arith, start .pre) in
     let s₀ = w1 .scale-eigenvectors .ensures in
     let s₁ = w2 .scale-eigenvectors2 .ensures in
-    let s₂ = w3 .scale-eigenvectors3 .ensures in
-    (legs-scaled (a .np) (a .eigenvectors .now) (a .g0) (a .g1) (a .g2) room (s₀ .0) (s₀ .1) (s₁ .0) (s₁ .1) (s₂ .0) (s₂ .1),
-    legs-kept (a .np) (a .eigenvectors .now) (a .g0) (a .g1) (a .g2) room (s₀ .0) (s₀ .1) (s₁ .0) (s₁ .1) (s₂ .0) (s₂ .1))
+    let s₂ = w3 .scale-eigenvectors3 .ensures in (
+      legs-scaled (a .np) (a .eigenvectors .now) (a .g0) (a .g1) (a .g2) room (s₀ .0) (s₀ .1) (s₁ .0) (s₁ .1) (s₂ .0) (s₂ .1),
+      legs-kept (a .np) (a .eigenvectors .now) (a .g0) (a .g1) (a .g2) room (s₀ .0) (s₀ .1) (s₁ .0) (s₁ .1) (s₂ .0) (s₂ .1),
+    )
 
 pub scale-legs-spec : {M : Type 1} → statement M
 scale-legs-spec =

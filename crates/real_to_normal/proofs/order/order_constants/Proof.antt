@@ -1,3 +1,4 @@
+-- The legs picked in this order hand their factors and pre-factors to the blocks.
 use Rattle.planes.proofs.RegionLaws.{kept-wider}
 use Rattle.real_to_normal.specs.Work.{constantsAt, scratchAt}
 use Prim.Native.Nat.{ℕ, _*_}
@@ -9,90 +10,64 @@ use native.Mathlib.Omega.{arith}
 use borrow.Author.Needs.{needs}
 use Rattle.real_to_normal.proofs.order.order_constants.Statement.{statement}
 use Rattle.real_to_normal.proofs.order.order_constants.Tie as tie
-use Rattle.real_to_normal.proofs.order.order_constants.Reads as reads
-use Rattle.real_to_normal.proofs.order.order_constants.Lts as lts
-use Rattle.real_to_normal.proofs.order.leg_at.Reads as leg-at-reads
-use Rattle.real_to_normal.proofs.order.pick_q.Reads as pick-q-reads
-use Rattle.real_to_reciprocal.proofs.phases.pre_phase_factors.Reads as pre-phase-factors-reads
-use Rattle.real_to_reciprocal.proofs.real_to_reciprocal.Reads as real-to-reciprocal-reads
 
--- src/order.rt:72:13
 mul-d : tie.Need-mul-d
 mul-d c = search needs
 
--- src/order.rt:72:23
 mul-d-2 : tie.Need-mul-d-2
 mul-d-2 c = search needs
 
--- src/order.rt:72:13
 mul-d-3 : tie.Need-mul-d-3
 mul-d-3 c = search needs
 
--- src/order.rt:73:18
 mul-n : tie.Need-mul-n
 mul-n c = search needs
 
--- src/order.rt:73:13
 mul-n-2 : tie.Need-mul-n-2
 mul-n-2 c = search needs
 
--- src/order.rt:74:24
 mul-f0 : tie.Need-mul-f0
 mul-f0 c = search needs
 
--- src/order.rt:74:19
 mul-f0-2 : tie.Need-mul-f0-2
 mul-f0-2 c = search needs
 
--- src/order.rt:74:14
 add-f0 : tie.Need-add-f0
 add-f0 c = search needs
 
--- src/order.rt:75:19
 mul-po : tie.Need-mul-po
 mul-po c = search needs
 
--- src/order.rt:75:14
 add-po : tie.Need-add-po
 add-po c = search needs
 
--- src/order.rt:76:19
 mul-fo : tie.Need-mul-fo
 mul-fo c = search needs
 
--- src/order.rt:76:14
 add-fo : tie.Need-add-fo
 add-fo c = search needs
 
--- src/order.rt:77:9
 leg-at-requires : tie.Need-leg-at-requires
 leg-at-requires c κs = search needs
 
--- src/order.rt:78:9
 leg-at-requires-2 : tie.Need-leg-at-requires-2
 leg-at-requires-2 c κs = search needs
 
--- src/order.rt:79:9
 leg-at-requires-3 : tie.Need-leg-at-requires-3
 leg-at-requires-3 c κs = search needs
 
--- src/order.rt:80:13
 pick-q-requires : tie.Need-pick-q-requires
 pick-q-requires c κs = search needs
 
--- src/order.rt:81:13
 pick-q-requires-2 : tie.Need-pick-q-requires-2
 pick-q-requires-2 c κs = search needs
 
--- src/order.rt:82:13
 pick-q-requires-3 : tie.Need-pick-q-requires-3
 pick-q-requires-3 c κs = search needs
 
--- src/order.rt:83:5
 pre-phase-factors-requires : tie.Need-pre-phase-factors-requires
 pre-phase-factors-requires c κs = search needs
 
--- src/order.rt:84:5
 real-to-reciprocal-requires : tie.Need-real-to-reciprocal-requires
 real-to-reciprocal-requires c κs =
     let wrote = c .before .before .before in
@@ -109,11 +84,9 @@ real-to-reciprocal-requires c κs =
     let r2 = leg-room (start .args .x2) n (p .0 .4) in
     (p .0 .0, p .0 .1, p .0 .7, omega arith, omega (arith, g0, r0), omega (arith, g1, r1), omega (arith, g2, r2), omega (arith, size, p .0 .5))
 
--- src/order.rt:45:1
 same-length : tie.Need-same-length
 same-length c = search needs
 
--- src/order.rt:45:1
 returns : tie.Need-returns
 returns c =
     let done = c .before .before in
@@ -132,9 +105,10 @@ returns c =
     let h1 = legs .before .leg-at2 .ensures in
     let h2 = legs .leg-at3 .ensures in
     let r = done .real-to-reciprocal .ensures in
-    let k = kept-wider (constantsAt (a .np) (a .ns)) (scratchAt (a .np) (a .ns)) (omega arith) (omega arith) (r .1) in
-    (order-is (a .np) (a .ns) (a .anchoring) forces (a .vectors .now) (a .multiplicity .now) q (a .x0) (a .x1) (a .x2) (p .0 .2) (p .0 .3) (p .0 .4) e0 e1 e2 (p .1) (wrote .pre-phase-factors .ensures) h0 h1 h2 (r .0) k,
-    order-kept (a .np) (a .ns) (a .anchoring) forces (a .vectors .now) (a .multiplicity .now) q (a .x0) (a .x1) (a .x2) (p .0 .2) (p .0 .3) (p .0 .4) e0 e1 e2 (p .1) (wrote .pre-phase-factors .ensures) h0 h1 h2 (r .0) k)
+    let k = kept-wider (constantsAt (a .np) (a .ns)) (scratchAt (a .np) (a .ns)) (omega arith) (omega arith) (r .1) in (
+      order-is (a .np) (a .ns) (a .anchoring) forces (a .vectors .now) (a .multiplicity .now) q (a .x0) (a .x1) (a .x2) (p .0 .2) (p .0 .3) (p .0 .4) e0 e1 e2 (p .1) (wrote .pre-phase-factors .ensures) h0 h1 h2 (r .0) k,
+      order-kept (a .np) (a .ns) (a .anchoring) forces (a .vectors .now) (a .multiplicity .now) q (a .x0) (a .x1) (a .x2) (p .0 .2) (p .0 .3) (p .0 .4) e0 e1 e2 (p .1) (wrote .pre-phase-factors .ensures) h0 h1 h2 (r .0) k,
+    )
 
 pub order-constants-spec : {M : Type 1} → statement M
 order-constants-spec =

@@ -1,3 +1,4 @@
+-- The order 0, 1, 2, and the slots from the columns that were prepared.
 use Prim.Native.Nat.{ℕ, _*_}
 use Rattle.phonon.specs.Sets.{Legs}
 use Rattle.planes.proofs.RegionLaws.{kept-then, kept-wider}
@@ -6,113 +7,82 @@ use native.Mathlib.Omega.{arith}
 use borrow.Author.Needs.{needs}
 use Rattle.real_to_normal.proofs.plain.real_to_normal.Statement.{statement}
 use Rattle.real_to_normal.proofs.plain.real_to_normal.Tie as tie
-use Rattle.real_to_normal.proofs.plain.real_to_normal.Reads as reads
-use Rattle.real_to_normal.proofs.plain.real_to_normal.Lts as lts
-use Rattle.real_to_normal.proofs.order.leg_at.Reads as leg-at-reads
-use Rattle.real_to_normal.proofs.order.order_constants.Reads as order-constants-reads
-use Rattle.reciprocal_to_normal.proofs.scale.leg_frequencies.Reads as leg-frequencies-reads
-use Rattle.reciprocal_to_normal.proofs.slots.reciprocal_to_normal_squared.Reads as reciprocal-to-normal-squared-reads
 
--- src/plain.rt:60:14
 mul-nb : tie.Need-mul-nb
 mul-nb c = search needs
 
--- src/plain.rt:61:13
 mul-d : tie.Need-mul-d
 mul-d c = search needs
 
--- src/plain.rt:62:24
 mul-fo : tie.Need-mul-fo
 mul-fo c = search needs
 
--- src/plain.rt:62:19
 mul-fo-2 : tie.Need-mul-fo-2
 mul-fo-2 c = search needs
 
--- src/plain.rt:62:14
 add-fo : tie.Need-add-fo
 add-fo c = search needs
 
--- src/plain.rt:62:43
 mul-fo-3 : tie.Need-mul-fo-3
 mul-fo-3 c = search needs
 
--- src/plain.rt:62:38
 mul-fo-4 : tie.Need-mul-fo-4
 mul-fo-4 c = search needs
 
--- src/plain.rt:62:33
 mul-fo-5 : tie.Need-mul-fo-5
 mul-fo-5 c = search needs
 
--- src/plain.rt:62:14
 add-fo-2 : tie.Need-add-fo-2
 add-fo-2 c = search needs
 
--- src/plain.rt:62:55
 mul-fo-6 : tie.Need-mul-fo-6
 mul-fo-6 c = search needs
 
--- src/plain.rt:62:14
 add-fo-3 : tie.Need-add-fo-3
 add-fo-3 c = search needs
 
--- src/plain.rt:63:24
 mul-so : tie.Need-mul-so
 mul-so c = search needs
 
--- src/plain.rt:63:19
 mul-so-2 : tie.Need-mul-so-2
 mul-so-2 c = search needs
 
--- src/plain.rt:63:14
 add-so : tie.Need-add-so
 add-so c = search needs
 
--- src/plain.rt:64:25
 mul-leg-at : tie.Need-mul-leg-at
 mul-leg-at c = search needs
 
--- src/plain.rt:64:9
 leg-at-requires : tie.Need-leg-at-requires
 leg-at-requires c κs = search needs
 
--- src/plain.rt:65:25
 mul-leg-at-2 : tie.Need-mul-leg-at-2
 mul-leg-at-2 c = search needs
 
--- src/plain.rt:65:9
 leg-at-requires-2 : tie.Need-leg-at-requires-2
 leg-at-requires-2 c κs = search needs
 
--- src/plain.rt:66:25
 mul-leg-at-3 : tie.Need-mul-leg-at-3
 mul-leg-at-3 c = search needs
 
--- src/plain.rt:66:9
 leg-at-requires-3 : tie.Need-leg-at-requires-3
 leg-at-requires-3 c κs = search needs
 
--- src/plain.rt:67:9
 leg-frequencies-requires : tie.Need-leg-frequencies-requires
 leg-frequencies-requires c κs = search needs
 
--- src/plain.rt:68:9
 leg-frequencies-requires-2 : tie.Need-leg-frequencies-requires-2
 leg-frequencies-requires-2 c κs = search needs
 
--- src/plain.rt:69:9
 leg-frequencies-requires-3 : tie.Need-leg-frequencies-requires-3
 leg-frequencies-requires-3 c κs = search needs
 
--- src/plain.rt:70:5
 order-constants-requires : tie.Need-order-constants-requires
 order-constants-requires c κs =
     let start = c .before .before .before .before .before .before .before .before .before .before .before .before .before .before .before in
     let p = start .pre in
     ((p .0 .1, p .0 .2, omega arith, omega arith, omega arith, omega (arith, p .0 .3), p .0 .4, p .0 .5), p .1 .0)
 
--- src/plain.rt:90:5
 reciprocal-to-normal-squared-requires : tie.Need-reciprocal-to-normal-squared-requires
 reciprocal-to-normal-squared-requires c κs =
     let order = c .before .before .before .before in
@@ -127,15 +97,12 @@ reciprocal-to-normal-squared-requires c κs =
     let e0 = legs .before .before .leg-at .ensures in
     ((p .0 .0, omega (arith, p .0 .1), p .1 .1 .3, p .1 .1 .4), ((stretch-length (a .frequencies .now) (a .g0) (3 * a .np) (p .1 .1 .0) (freq .before .before .leg-frequencies .ensures), stretch-length (a .frequencies .now) (a .g1) (3 * a .np) (p .1 .1 .1) (freq .before .leg-frequencies2 .ensures), stretch-length (a .frequencies .now) (a .g2) (3 * a .np) (p .1 .1 .2) (freq .leg-frequencies3 .ensures), p .1 .1 .5), (omega arith, omega (arith, e0), omega (arith, e1), omega (arith, e2), omega (arith, size, p .0 .3))))
 
--- src/plain.rt:25:1
 same-length : tie.Need-same-length
 same-length c = search needs
 
--- src/plain.rt:25:1
 same-length-2 : tie.Need-same-length-2
 same-length-2 c = search needs
 
--- src/plain.rt:25:1
 returns : tie.Need-returns
 returns c =
     let done = c .before .before .before .before in
@@ -147,10 +114,11 @@ returns c =
     let p = start .pre in
     let g : Legs ℕ = record { leg0 = a .g0; leg1 = a .g1; leg2 = a .g2 } in
     let o = order .order-constants .ensures in
-    let r = done .reciprocal-to-normal-squared .ensures in
-    (plain-is (a .np) (a .ns) (a .frequencies .now) g (o .1) (omega arith) (a .bands .now) (a .flags .now) (a .out .now) _ (a .cutoff) _ (p .0 .0) (p .1 .1 .5) (o .0)
-    (legs .before .before .leg-at .ensures) (legs .before .leg-at2 .ensures) (legs .leg-at3 .ensures) (freq .before .before .leg-frequencies .ensures) (freq .before .leg-frequencies2 .ensures) (freq .leg-frequencies3 .ensures) (r .0),
-    kept-then (kept-wider _ _ (omega arith) (omega arith) (o .1)) (kept-wider _ _ (omega arith) (omega arith) (r .1)))
+    let r = done .reciprocal-to-normal-squared .ensures in (
+      plain-is (a .np) (a .ns) (a .frequencies .now) g (o .1) (omega arith) (a .bands .now) (a .flags .now) (a .out .now) _ (a .cutoff) _ (p .0 .0) (p .1 .1 .5) (o .0)
+          (legs .before .before .leg-at .ensures) (legs .before .leg-at2 .ensures) (legs .leg-at3 .ensures) (freq .before .before .leg-frequencies .ensures) (freq .before .leg-frequencies2 .ensures) (freq .leg-frequencies3 .ensures) (r .0),
+      kept-then (kept-wider _ _ (omega arith) (omega arith) (o .1)) (kept-wider _ _ (omega arith) (omega arith) (r .1)),
+    )
 
 pub real-to-normal-spec : {M : Type 1} → statement M
 real-to-normal-spec =

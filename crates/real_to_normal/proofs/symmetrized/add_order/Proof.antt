@@ -1,3 +1,4 @@
+-- The full listing of one order, and a sixth of it gathered into the slots.
 use Prim.Native.Nat.{ℕ, _*_}
 use Rattle.phonon.specs.Sets.{Legs}
 use Rattle.planes.proofs.RegionLaws.{kept-then, kept-wider}
@@ -7,143 +8,104 @@ use native.Mathlib.Omega.{arith}
 use borrow.Author.Needs.{needs}
 use Rattle.real_to_normal.proofs.symmetrized.add_order.Statement.{statement}
 use Rattle.real_to_normal.proofs.symmetrized.add_order.Tie as tie
-use Rattle.real_to_normal.proofs.symmetrized.add_order.Reads as reads
-use Rattle.real_to_normal.proofs.symmetrized.add_order.Lts as lts
-use Rattle.real_to_normal.proofs.order.leg_at.Reads as leg-at-reads
-use Rattle.real_to_normal.proofs.order.order_constants.Reads as order-constants-reads
-use Rattle.real_to_normal.proofs.symmetrized.frequencies_of.Reads as frequencies-of-reads
-use Rattle.reciprocal_to_normal.proofs.gather.gather_sixth.Reads as gather-sixth-reads
-use Rattle.reciprocal_to_normal.proofs.listing.full_strengths.Reads as full-strengths-reads
 
--- src/symmetrized.rt:92:14
 mul-nb : tie.Need-mul-nb
 mul-nb c = search needs
 
--- src/symmetrized.rt:93:13
 mul-d : tie.Need-mul-d
 mul-d c = search needs
 
--- src/symmetrized.rt:94:24
 mul-fo : tie.Need-mul-fo
 mul-fo c = search needs
 
--- src/symmetrized.rt:94:19
 mul-fo-2 : tie.Need-mul-fo-2
 mul-fo-2 c = search needs
 
--- src/symmetrized.rt:94:14
 add-fo : tie.Need-add-fo
 add-fo c = search needs
 
--- src/symmetrized.rt:94:43
 mul-fo-3 : tie.Need-mul-fo-3
 mul-fo-3 c = search needs
 
--- src/symmetrized.rt:94:38
 mul-fo-4 : tie.Need-mul-fo-4
 mul-fo-4 c = search needs
 
--- src/symmetrized.rt:94:33
 mul-fo-5 : tie.Need-mul-fo-5
 mul-fo-5 c = search needs
 
--- src/symmetrized.rt:94:14
 add-fo-2 : tie.Need-add-fo-2
 add-fo-2 c = search needs
 
--- src/symmetrized.rt:94:55
 mul-fo-6 : tie.Need-mul-fo-6
 mul-fo-6 c = search needs
 
--- src/symmetrized.rt:94:14
 add-fo-3 : tie.Need-add-fo-3
 add-fo-3 c = search needs
 
--- src/symmetrized.rt:95:24
 mul-so : tie.Need-mul-so
 mul-so c = search needs
 
--- src/symmetrized.rt:95:19
 mul-so-2 : tie.Need-mul-so-2
 mul-so-2 c = search needs
 
--- src/symmetrized.rt:95:14
 add-so : tie.Need-add-so
 add-so c = search needs
 
--- src/symmetrized.rt:96:19
 mul-to : tie.Need-mul-to
 mul-to c = search needs
 
--- src/symmetrized.rt:96:14
 add-to : tie.Need-add-to
 add-to c = search needs
 
--- src/symmetrized.rt:96:27
 mul-to-2 : tie.Need-mul-to-2
 mul-to-2 c = search needs
 
--- src/symmetrized.rt:96:14
 add-to-2 : tie.Need-add-to-2
 add-to-2 c = search needs
 
--- src/symmetrized.rt:97:14
 array-read-x0 : tie.Need-array-read-x0
 array-read-x0 c = search needs
 
--- src/symmetrized.rt:98:14
 array-read-x1 : tie.Need-array-read-x1
 array-read-x1 c = search needs
 
--- src/symmetrized.rt:99:14
 array-read-x2 : tie.Need-array-read-x2
 array-read-x2 c = search needs
 
--- src/symmetrized.rt:100:25
 mul-leg-at : tie.Need-mul-leg-at
 mul-leg-at c = search needs
 
--- src/symmetrized.rt:100:9
 leg-at-requires : tie.Need-leg-at-requires
 leg-at-requires c κs = search needs
 
--- src/symmetrized.rt:101:25
 mul-leg-at-2 : tie.Need-mul-leg-at-2
 mul-leg-at-2 c = search needs
 
--- src/symmetrized.rt:101:9
 leg-at-requires-2 : tie.Need-leg-at-requires-2
 leg-at-requires-2 c κs = search needs
 
--- src/symmetrized.rt:102:25
 mul-leg-at-3 : tie.Need-mul-leg-at-3
 mul-leg-at-3 c = search needs
 
--- src/symmetrized.rt:102:9
 leg-at-requires-3 : tie.Need-leg-at-requires-3
 leg-at-requires-3 c κs = search needs
 
--- src/symmetrized.rt:103:9
 frequencies-of-requires : tie.Need-frequencies-of-requires
 frequencies-of-requires c κs = search needs
 
--- src/symmetrized.rt:104:9
 frequencies-of-requires-2 : tie.Need-frequencies-of-requires-2
 frequencies-of-requires-2 c κs = search needs
 
--- src/symmetrized.rt:105:9
 frequencies-of-requires-3 : tie.Need-frequencies-of-requires-3
 frequencies-of-requires-3 c κs =
     let p = c .before .before .before .before .before .before .before .before .before .before .before .before .before .pre in
     (p .1 .1 .0, p .1 .1 .1, p .1 .1 .2)
 
--- src/symmetrized.rt:106:5
 order-constants-requires : tie.Need-order-constants-requires
 order-constants-requires c κs =
     let p = c .before .before .before .before .before .before .before .before .before .before .before .before .before .before .before .pre in
     ((p .0 .1, p .0 .2, p .1 .1 .6, p .1 .1 .7, p .1 .1 .8, omega (arith, p .0 .3), p .0 .4, p .0 .5), p .1 .0)
 
--- src/symmetrized.rt:126:5
 full-strengths-requires : tie.Need-full-strengths-requires
 full-strengths-requires c κs =
     let order = c .before .before .before in
@@ -156,11 +118,11 @@ full-strengths-requires c κs =
     let d : ℕ = 2 * (3 * a .np * (3 * a .np)) in
     let e0 = legs .before .before .leg-at .ensures in
     let e1 = legs .before .leg-at2 .ensures in
-    let e2 = legs .leg-at3 .ensures in
-    ((p .0 .0, omega (arith, p .0 .1), freq .before .before .frequencies-of .ensures .1, freq .before .frequencies-of2 .ensures .1, freq .frequencies-of3 .ensures .1),
-    (omega arith, omega (arith, e0, leg-room _ d (p .1 .1 .6)), omega (arith, e1, leg-room _ d (p .1 .1 .7)), omega (arith, e2, leg-room _ d (p .1 .1 .8)), omega arith, omega (arith, size, p .0 .3)))
+    let e2 = legs .leg-at3 .ensures in (
+      (p .0 .0, omega (arith, p .0 .1), freq .before .before .frequencies-of .ensures .1, freq .before .frequencies-of2 .ensures .1, freq .frequencies-of3 .ensures .1),
+      (omega arith, omega (arith, e0, leg-room _ d (p .1 .1 .6)), omega (arith, e1, leg-room _ d (p .1 .1 .7)), omega (arith, e2, leg-room _ d (p .1 .1 .8)), omega arith, omega (arith, size, p .0 .3)),
+    )
 
--- src/symmetrized.rt:127:5
 gather-sixth-requires : tie.Need-gather-sixth-requires
 gather-sixth-requires c κs =
     let full = c .before .before .before .before in
@@ -169,15 +131,12 @@ gather-sixth-requires c κs =
     let p = start .pre in
     ((p .0 .0, omega (arith, p .0 .1), p .1 .1 .3, p .1 .1 .4, omega (arith, full .full-strengths .ensures .size, order .order-constants .ensures .1 .size, p .0 .3)), (p .1 .1 .5, p .1 .1 .6, p .1 .1 .7, p .1 .1 .8))
 
--- src/symmetrized.rt:55:1
 same-length : tie.Need-same-length
 same-length c = search needs
 
--- src/symmetrized.rt:55:1
 same-length-2 : tie.Need-same-length-2
 same-length-2 c = search needs
 
--- src/symmetrized.rt:55:1
 returns : tie.Need-returns
 returns c =
     let done = c .before .before in
@@ -190,10 +149,11 @@ returns c =
     let p = start .pre in
     let g : Legs ℕ = record { leg0 = a .g0; leg1 = a .g1; leg2 = a .g2 } in
     let o = order .order-constants .ensures in
-    let f = full .full-strengths .ensures in
-    (order-gathered (a .np) (a .ns) (a .frequencies .now) g (o .1) (omega arith) (a .t4) (a .bands .now) (a .flags .now) (a .out .now) _ (a .cutoff) _ _ _ (p .0 .0) (p .1 .1 .5) (o .0) (p .1 .1 .6) (p .1 .1 .7) (p .1 .1 .8)
-    (legs .before .before .leg-at .ensures) (legs .before .leg-at2 .ensures) (legs .leg-at3 .ensures) (freq .before .before .frequencies-of .ensures .0) (freq .before .frequencies-of2 .ensures .0) (freq .frequencies-of3 .ensures .0) f (done .gather-sixth .ensures),
-    kept-then (kept-wider _ _ (omega arith) (omega arith) (o .1)) (above-kept _ _ (omega arith) (omega arith) (omega arith) f))
+    let f = full .full-strengths .ensures in (
+      order-gathered (a .np) (a .ns) (a .frequencies .now) g (o .1) (omega arith) (a .t4) (a .bands .now) (a .flags .now) (a .out .now) _ (a .cutoff) _ _ _ (p .0 .0) (p .1 .1 .5) (o .0) (p .1 .1 .6) (p .1 .1 .7) (p .1 .1 .8)
+          (legs .before .before .leg-at .ensures) (legs .before .leg-at2 .ensures) (legs .leg-at3 .ensures) (freq .before .before .frequencies-of .ensures .0) (freq .before .frequencies-of2 .ensures .0) (freq .frequencies-of3 .ensures .0) f (done .gather-sixth .ensures),
+      kept-then (kept-wider _ _ (omega arith) (omega arith) (o .1)) (above-kept _ _ (omega arith) (omega arith) (omega arith) f),
+    )
 
 pub add-order-spec : {M : Type 1} → statement M
 add-order-spec =

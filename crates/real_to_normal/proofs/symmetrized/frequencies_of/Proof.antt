@@ -1,28 +1,21 @@
+-- The stretch of the leg that x names.
 use mathlib.Core.Path.{ap, _∙_}
 use Prim.Native.Nat.{ℕ, _*_}
 use lib.ListN.{take, drop}
 use Rattle.real_to_normal.proofs.SlotLaws.{leg-fits, stretch-length}
-use native.Mathlib.Omega.{arith}
 use borrow.Author.Needs.{needs}
 use Rattle.real_to_normal.proofs.symmetrized.frequencies_of.Statement.{statement}
 use Rattle.real_to_normal.proofs.symmetrized.frequencies_of.Tie as tie
-use Rattle.real_to_normal.proofs.symmetrized.frequencies_of.Reads as reads
-use Rattle.real_to_normal.proofs.symmetrized.frequencies_of.Lts as lts
-use Rattle.real_to_normal.proofs.symmetrized.pick_point.Reads as pick-point-reads
-use Rattle.reciprocal_to_normal.proofs.scale.leg_frequencies.Reads as leg-frequencies-reads
 
--- src/symmetrized.rt:50:34
 pick-point-requires : tie.Need-pick-point-requires
 pick-point-requires c κs = search needs
 
--- src/symmetrized.rt:50:5
 leg-frequencies-requires : tie.Need-leg-frequencies-requires
 leg-frequencies-requires c κs =
     let start = c .before .before in
     let a = start .args in
     leg-fits (a .g0) (a .g1) (a .g2) (a .x) (a .nb) _ (c .pick-point .ensures) (start .pre .0) (start .pre .1) (start .pre .2)
 
--- src/symmetrized.rt:39:1
 returns : tie.Need-returns
 returns c =
     let start = c .before .before .before in

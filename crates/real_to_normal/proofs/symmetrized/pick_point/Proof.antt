@@ -1,20 +1,15 @@
+-- By the cases of x.
 use Rattle.real_to_normal.proofs.OrderLaws.{leg-last}
-use native.Mathlib.Omega.{arith}
 use borrow.Author.Needs.{needs}
 use Rattle.real_to_normal.proofs.symmetrized.pick_point.Statement.{statement}
 use Rattle.real_to_normal.proofs.symmetrized.pick_point.Tie as tie
-use Rattle.real_to_normal.proofs.symmetrized.pick_point.Reads as reads
-use Rattle.real_to_normal.proofs.symmetrized.pick_point.Lts as lts
 
--- src/symmetrized.rt:30:9
 returns : tie.Need-returns
 returns c = search needs
 
--- src/symmetrized.rt:33:9
 returns-2 : tie.Need-returns-2
 returns-2 c = search needs
 
--- src/symmetrized.rt:26:1
 returns-3 : tie.Need-returns-3
 returns-3 c = leg-last _ (c .before .before .args .x) (c .before .if1 .left) (c .if2 .left)
 

@@ -1,3 +1,4 @@
+-- After o turns each slot that is not flagged holds the first o sixths, summed in turn.
 use Rattle.phonon.proofs.Laws.{table-length}
 use Rattle.planes.proofs.RegionLaws.{kept-none, kept-then}
 use Rattle.planes.proofs.WorkLaws.{numbers-below}
@@ -16,11 +17,6 @@ use Rattle.real_to_normal.specs.Work.{preAt, endAt, sixthOf}
 use native.Mathlib.Omega.{arith}
 use Rattle.real_to_normal.proofs.symmetrized.real_to_normal_sym_q.Statement.{statement}
 use Rattle.real_to_normal.proofs.symmetrized.real_to_normal_sym_q.Tie as tie
-use Rattle.real_to_normal.proofs.symmetrized.real_to_normal_sym_q.Reads as reads
-use Rattle.real_to_normal.proofs.symmetrized.real_to_normal_sym_q.Lts as lts
-use Rattle.real_to_normal.proofs.symmetrized.add_order.Reads as add-order-reads
-use Rattle.real_to_normal.proofs.symmetrized.order_at.Reads as order-at-reads
-use Rattle.reciprocal_to_normal.proofs.gather.clear.Reads as clear-reads
 
 abbrev Inv-loop : tie.InvT-loop
 Inv-loop out₀ flags w₀ q0 q1 q2 form anchoring vectors multiplicity p2s s2p shortest nonzero constants frequencies g0 g1 g2 bands np ns cutoff o₀ out w o =
@@ -32,11 +28,9 @@ abbrev μ-loop : tie.MeasureT-loop
 μ-loop out₀ flags w₀ q0 q1 q2 form anchoring vectors multiplicity p2s s2p shortest nonzero constants frequencies g0 g1 g2 bands np ns cutoff o₀ out w o =
     6 - o
 
--- src/symmetrized.rt:185:5
 clear-requires : tie.Need-clear-requires Inv-loop μ-loop
 clear-requires c κs = omega arith
 
--- src/symmetrized.rt:186:5
 loop-holds : tie.Need-loop-holds Inv-loop μ-loop
 loop-holds c =
     let start = c .before .before .before .before .before .before .before .before .before .before .before .before in
@@ -47,11 +41,9 @@ loop-holds c =
     let p = start .pre in
     (omega arith, c .before .before .clear .ensures ∙ six-none (a .np) (a .ns) (a .anchoring) forces (a .vectors .now) (a .multiplicity .now) q (a .w .now) (a .frequencies .now) g (a .bands .now) (a .cutoff) (a .flags .now) (p .0 .0) (p .1 .1 .5) _ (p .1 .1 .3), kept-none _ _ _)
 
--- src/symmetrized.rt:191:13
 order-at-requires : tie.Need-order-at-requires Inv-loop μ-loop
 order-at-requires c κs = omega arith
 
--- src/symmetrized.rt:187:9
 add-order-requires : tie.Need-add-order-requires Inv-loop μ-loop
 add-order-requires c κs =
     let loop = c .before .before .before .before .loop in
@@ -60,20 +52,20 @@ add-order-requires c κs =
     let p = start .pre in
     let i = orders-lt (loop .o) (omega arith) in
     let e = c .order-at .ensures in
-    let size : length (loop .out) ≡ length (a .bands .now) * (3 * a .np) * (3 * a .np) = ap length (loop .inv .1) ∙ table-length _ _ in
-    ((p .0 .0, p .0 .1, p .0 .2, omega (arith, loop .inv .2 .size, p .0 .3), p .0 .4, p .0 .5),
-    ((λ x h. numbers-below (loop .inv .2) _ _ _ (omega (arith, leg-room x (2 * (a .np * a .ns)) h)) ∙ p .1 .0 x h),
-    (p .1 .1 .0, p .1 .1 .1, p .1 .1 .2, size, p .1 .1 .4, p .1 .1 .5, subst (λ d. getD d 0 0 < 3) (sym e) (i .0), subst (λ d. getD d 1 0 < 3) (sym e) (i .1), subst (λ d. getD d 2 0 < 3) (sym e) (i .2))))
+    let size : length (loop .out) ≡ length (a .bands .now) * (3 * a .np) * (3 * a .np) = ap length (loop .inv .1) ∙ table-length _ _ in (
+      (p .0 .0, p .0 .1, p .0 .2, omega (arith, loop .inv .2 .size, p .0 .3), p .0 .4, p .0 .5),
+      (
+        (λ x h. numbers-below (loop .inv .2) _ _ _ (omega (arith, leg-room x (2 * (a .np * a .ns)) h)) ∙ p .1 .0 x h),
+        (p .1 .1 .0, p .1 .1 .1, p .1 .1 .2, size, p .1 .1 .4, p .1 .1 .5, subst (λ d. getD d 0 0 < 3) (sym e) (i .0), subst (λ d. getD d 1 0 < 3) (sym e) (i .1), subst (λ d. getD d 2 0 < 3) (sym e) (i .2)),
+      ),
+    )
 
--- src/symmetrized.rt:186:9
 add-o : tie.Need-add-o Inv-loop μ-loop
 add-o c = omega arith
 
--- src/symmetrized.rt:186:5
 loop-less : tie.Need-loop-less Inv-loop μ-loop
 loop-less c = omega arith
 
--- src/symmetrized.rt:186:5
 loop-again : tie.Need-loop-again Inv-loop μ-loop
 loop-again c =
     let add = c .before .before .before .before in
@@ -88,17 +80,14 @@ loop-again c =
     let r = add .add-order .ensures in
     (omega arith, six-turn (a .np) (a .ns) (a .anchoring) forces (a .vectors .now) (a .multiplicity .now) q (a .w .now) (a .frequencies .now) g (a .bands .now) (a .cutoff) (a .flags .now) (p .0 .0) (p .1 .1 .5) (loop .o) less (loop .inv .2) (add .before .order-at .ensures) (loop .inv .1) (r .0), kept-then (loop .inv .2) (r .1))
 
--- src/symmetrized.rt:151:1
 same-length : tie.Need-same-length Inv-loop μ-loop
 same-length c =
     let start = c .before .before .before .before .before .before .before .before .before .before .before .before .before .before in
     ap length (c .before .loop .inv .1) ∙ table-length _ _ ∙ sym (start .pre .1 .1 .3)
 
--- src/symmetrized.rt:151:1
 same-length-2 : tie.Need-same-length-2 Inv-loop μ-loop
 same-length-2 c = c .before .loop .inv .2 .size
 
--- src/symmetrized.rt:151:1
 returns : tie.Need-returns Inv-loop μ-loop
 returns c =
     let loop = c .before .loop in

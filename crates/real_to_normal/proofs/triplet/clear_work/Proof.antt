@@ -1,3 +1,4 @@
+-- After i turns the first i numbers are 0.0.
 use Prim.Native.Nat.{_-_, _≤_}
 use mathlib.Core.Path.{_≡_, refl}
 use mathlib.Core.List.{_++_}
@@ -7,8 +8,6 @@ use Rattle.real_to_normal.proofs.TripletLaws.{clear-more}
 use native.Mathlib.Omega.{arith}
 use Rattle.real_to_normal.proofs.triplet.clear_work.Statement.{statement}
 use Rattle.real_to_normal.proofs.triplet.clear_work.Tie as tie
-use Rattle.real_to_normal.proofs.triplet.clear_work.Reads as reads
-use Rattle.real_to_normal.proofs.triplet.clear_work.Lts as lts
 
 abbrev Inv-loop : tie.InvT-loop
 Inv-loop w₀ n i₀ w i = (i ≤ n) × (length w ≡ length w₀) × (w ≡ replicate i f0 ++ drop i w₀)
@@ -16,37 +15,29 @@ Inv-loop w₀ n i₀ w i = (i ≤ n) × (length w ≡ length w₀) × (w ≡ rep
 abbrev μ-loop : tie.MeasureT-loop
 μ-loop w₀ n i₀ w i = n - i
 
--- src/triplet.rt:28:5
 loop-holds : tie.Need-loop-holds Inv-loop μ-loop
 loop-holds c = (omega arith, refl, refl)
 
--- src/triplet.rt:29:9
 mul-w : tie.Need-mul-w Inv-loop μ-loop
 mul-w c = omega arith
 
--- src/triplet.rt:29:9
 slice-write-w : tie.Need-slice-write-w Inv-loop μ-loop
 slice-write-w c = omega arith
 
--- src/triplet.rt:28:9
 add-i : tie.Need-add-i Inv-loop μ-loop
 add-i c = omega arith
 
--- src/triplet.rt:28:5
 loop-less : tie.Need-loop-less Inv-loop μ-loop
 loop-less c = omega arith
 
--- src/triplet.rt:28:5
 loop-again : tie.Need-loop-again Inv-loop μ-loop
 loop-again c =
     let a = c .before .before in
     (omega arith, simp length-set (c .before .loop .inv .1), rw (c .before .loop .inv .2) (clear-more (c .before .loop .i) (a .args .w .now) (omega arith)))
 
--- src/triplet.rt:24:1
 same-length : tie.Need-same-length Inv-loop μ-loop
 same-length c = omega arith
 
--- src/triplet.rt:24:1
 returns : tie.Need-returns Inv-loop μ-loop
 returns c =
     let all : c .before .loop .i ≡ c .before .before .args .n = omega arith in

@@ -1,3 +1,4 @@
+-- Either way of working leaves the slots that the definition names.
 use Prim.Native.Nat.{ℕ}
 use mathlib.Core.List.{List}
 use lib.Ieee.{Float}
@@ -8,49 +9,36 @@ use native.Mathlib.Omega.{arith}
 use borrow.Author.Needs.{needs}
 use Rattle.real_to_normal.proofs.triplet.slots_of.Statement.{statement}
 use Rattle.real_to_normal.proofs.triplet.slots_of.Tie as tie
-use Rattle.real_to_normal.proofs.triplet.slots_of.Reads as reads
-use Rattle.real_to_normal.proofs.triplet.slots_of.Lts as lts
-use Rattle.real_to_normal.proofs.legs.prepare.Reads as prepare-reads
-use Rattle.real_to_normal.proofs.plain.real_to_normal.Reads as real-to-normal-reads
-use Rattle.real_to_normal.proofs.symmetrized.real_to_normal_sym_q.Reads as real-to-normal-sym-q-reads
 
--- src/triplet.rt:77:5
 prepare-requires : tie.Need-prepare-requires
 prepare-requires c κs =
     let p = c .before .before .before .before .before .before .before .before .before .before .before .pre in
     ((omega (arith, p .0 .1), omega (arith, p .0 .2), omega (arith, p .0 .3), p .1 .0 .0, p .0 .5), (p .1 .0 .1, p .1 .0 .2, p .1 .0 .3))
 
--- src/triplet.rt:94:13
 enum-told : tie.Need-enum-told
 enum-told c = search needs
 
--- src/triplet.rt:93:26
 real-to-normal-requires : tie.Need-real-to-normal-requires
 real-to-normal-requires c κs =
     let prep = c .before .before .before .before .before .before .prepare .ensures in
     let p = c .before .before .before .before .before .before .before .before .before .before .before .before .before .before .before .before .before .before .pre in
     ((p .0 .0, p .0 .1, p .0 .2, omega (arith, prep .1 .size, p .0 .3), p .0 .4, p .0 .6), (prep .0 .factors, p .1 .1))
 
--- src/triplet.rt:119:13
 enum-told-2 : tie.Need-enum-told-2
 enum-told-2 c = search needs
 
--- src/triplet.rt:118:34
 real-to-normal-sym-q-requires : tie.Need-real-to-normal-sym-q-requires
 real-to-normal-sym-q-requires c κs =
     let prep = c .before .before .before .before .before .before .prepare .ensures in
     let p = c .before .before .before .before .before .before .before .before .before .before .before .before .before .before .before .before .before .before .pre in
     ((p .0 .0, p .0 .1, p .0 .2, omega (arith, prep .1 .size, p .0 .3), p .0 .4, p .0 .6), (prep .0 .factors, p .1 .1))
 
--- src/triplet.rt:41:1
 same-length : tie.Need-same-length
 same-length c = search needs
 
--- src/triplet.rt:41:1
 same-length-2 : tie.Need-same-length-2
 same-length-2 c = search needs
 
--- src/triplet.rt:41:1
 returns : tie.Need-returns
 returns c =
     let done = c .before .before .before .before in
@@ -62,19 +50,17 @@ returns c =
     let q : Legs (List Float) = record { leg0 = a .q0 .now; leg1 = a .q1 .now; leg2 = a .q2 .now } in
     let g : Legs ℕ = record { leg0 = a .g0; leg1 = a .g1; leg2 = a .g2 } in
     let r = done .real-to-normal .ensures in
-    let told = done .before .before .before .enum-told .given .1 in
-    (off-values (a .np) (a .ns) (a .masses .now) (a .eigenvectors .now) (a .vectors .now) (a .frequencies .now) (a .multiplicity .now) g q (prep .0) (a .anchoring) forces (a .bands .now) (a .cutoff) (a .flags .now) (a .strengths .now) (p .0 .0) (p .1 .1 .5) (a .symmetry) told (r .0),
-    kept-then (kept-wider 0 _ (omega arith) (omega arith) (prep .1)) (kept-wider 0 _ (omega arith) (omega arith) (r .1)))
+    let told = done .before .before .before .enum-told .given .1 in (
+      off-values (a .np) (a .ns) (a .masses .now) (a .eigenvectors .now) (a .vectors .now) (a .frequencies .now) (a .multiplicity .now) g q (prep .0) (a .anchoring) forces (a .bands .now) (a .cutoff) (a .flags .now) (a .strengths .now) (p .0 .0) (p .1 .1 .5) (a .symmetry) told (r .0),
+      kept-then (kept-wider 0 _ (omega arith) (omega arith) (prep .1)) (kept-wider 0 _ (omega arith) (omega arith) (r .1)),
+    )
 
--- src/triplet.rt:41:1
 same-length-3 : tie.Need-same-length-3
 same-length-3 c = search needs
 
--- src/triplet.rt:41:1
 same-length-4 : tie.Need-same-length-4
 same-length-4 c = search needs
 
--- src/triplet.rt:41:1
 returns-2 : tie.Need-returns-2
 returns-2 c =
     let done = c .before .before .before .before in
@@ -86,9 +72,10 @@ returns-2 c =
     let q : Legs (List Float) = record { leg0 = a .q0 .now; leg1 = a .q1 .now; leg2 = a .q2 .now } in
     let g : Legs ℕ = record { leg0 = a .g0; leg1 = a .g1; leg2 = a .g2 } in
     let r = done .real-to-normal-sym-q .ensures in
-    let told = done .before .before .before .enum-told2 .given .1 in
-    (six-values (a .np) (a .ns) (a .masses .now) (a .eigenvectors .now) (a .vectors .now) (a .frequencies .now) (a .multiplicity .now) g q (prep .0) (a .anchoring) forces (a .bands .now) (a .cutoff) (a .flags .now) (a .strengths .now) (p .0 .0) (p .1 .1 .5) (a .symmetry) told (r .0),
-    kept-then (kept-wider 0 _ (omega arith) (omega arith) (prep .1)) (kept-wider 0 _ (omega arith) (omega arith) (r .1)))
+    let told = done .before .before .before .enum-told2 .given .1 in (
+      six-values (a .np) (a .ns) (a .masses .now) (a .eigenvectors .now) (a .vectors .now) (a .frequencies .now) (a .multiplicity .now) g q (prep .0) (a .anchoring) forces (a .bands .now) (a .cutoff) (a .flags .now) (a .strengths .now) (p .0 .0) (p .1 .1 .5) (a .symmetry) told (r .0),
+      kept-then (kept-wider 0 _ (omega arith) (omega arith) (prep .1)) (kept-wider 0 _ (omega arith) (omega arith) (r .1)),
+    )
 
 pub slots-of-spec : {M : Type 1} → statement M
 slots-of-spec =
