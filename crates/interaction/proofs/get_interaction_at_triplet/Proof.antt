@@ -1,0 +1,86 @@
+-- A set that fails a test is answered with its number and left as it is; one that passes is handed to the worker.
+use Prim.Native.Nat.{ℕ}
+use mathlib.Core.Path.{_≡_, refl, sym, _∙_}
+use borrow.Author.Needs.{needs}
+use Rattle.phonon.specs.Sets.{TripletSet}
+use Rattle.phonon.specs.Limits.{sizesOf}
+use Rattle.phonon.specs.Refusal.{tripletRefusal}
+use Rattle.interaction.proofs.DoorLaws.{passes, refused, accepted}
+use Rattle.interaction.proofs.get_interaction_at_triplet.Statement.{statement}
+use Rattle.interaction.proofs.get_interaction_at_triplet.Tie as tie
+
+-- the set that the contract speaks of
+abbrev handed : tie.Start → TripletSet
+handed s =
+    record {
+      tables = record {
+        measures = s .args .m;
+        settings = s .args .settings;
+        symmetry = s .args .symmetry;
+        crystal = record {
+          vectors = s .args .vectors .now;
+          multiplicity = s .args .multiplicity .now;
+          masses = s .args .masses .now;
+          forces = record { form = s .args .form; p2s = s .args .p2s .now; s2p = s .args .s2p .now; shortest = s .args .shortest .now; nonzero = s .args .nonzero .now; constants = s .args .constants .now };
+        };
+        grid = record { mesh = s .args .mesh; matrix = s .args .matrix; addresses = s .args .addresses .now };
+        bands = s .args .bands .now;
+        phonons = record { frequencies = s .args .frequencies .now; eigenvectors = s .args .eigenvectors .now };
+      };
+      triplet = s .args .triplet;
+      flags = s .args .flags .now;
+      strengths = s .args .strengths .now;
+      work = s .args .work .now;
+    }
+
+check-triplet-requires : tie.Need-check-triplet-requires
+check-triplet-requires c κs = search needs
+
+enum-told : tie.Need-enum-told
+enum-told c = search needs
+
+enum-told-2 : tie.Need-enum-told-2
+enum-told-2 c = search needs
+
+answer-of-requires : tie.Need-answer-of-requires
+answer-of-requires c κs = search needs
+
+returns : tie.Need-returns
+returns c =
+    let s = c .before .before .before .before .before .before .before .before .before .before .before .before .before .before in
+    refused (handed s) (sizesOf (s .args .m) (s .args .form)) _ _ _ (c .before .before .before .check-triplet .ensures (s .args .strengths .now) (s .args .work .now) refl refl) (c .before .enum-told2 .given .1) (c .answer-of .ensures)
+
+-- the tests have passed
+passed : (c : tie.After-enum-told) → tripletRefusal (handed (c .before .before .before .before .before .before .before .before .before .before .before .before .before)) ≡ 0
+passed c =
+    let s = c .before .before .before .before .before .before .before .before .before .before .before .before .before in
+    passes _ (sizesOf (s .args .m) (s .args .form)) _ (sym (c .enum-told .given .1) ∙ c .before .before .check-triplet .ensures (s .args .strengths .now) (s .args .work .now) refl refl)
+
+work-triplet-requires : tie.Need-work-triplet-requires
+work-triplet-requires c κs = passed (c .before .before)
+
+same-length : tie.Need-same-length
+same-length c = search needs
+
+same-length-2 : tie.Need-same-length-2
+same-length-2 c = search needs
+
+returns-2 : tie.Need-returns-2
+returns-2 c =
+    let k = c .before .before .before .before .before .before .before in
+    let r = c .before .before .before .before .work-triplet .ensures in
+    accepted (handed (k .before .before .before .before .before .before .before .before .before .before .before .before .before)) (passed k) (r .0) (r .1)
+
+pub get-interaction-at-triplet-spec : {M : Type 1} → statement M
+get-interaction-at-triplet-spec =
+    tie.close
+    (tie.spec
+    check-triplet-requires
+    enum-told
+    enum-told-2
+    answer-of-requires
+    returns
+    work-triplet-requires
+    same-length
+    same-length-2
+    returns-2)
