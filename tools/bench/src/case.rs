@@ -1,0 +1,201 @@
+//! The sets that are timed: P atoms, 8·P in the supercell, F = B.
+
+use differential::call::{Buffers, Call, Door, Kind};
+use differential::random::Random;
+use oracle::sets::*;
+
+#[derive(Clone, Copy, Debug, PartialEq, Eq)]
+pub enum Timed {
+    /// Strengths of one triplet.
+    Triplet,
+    /// Totals alone, beside the Rust function that is handed the positions of the unflagged slots.
+    Totals,
+    /// Totals alone, beside the Rust driver that finds these positions from the flags.
+    TotalsFromFlags,
+    /// Strengths and totals.
+    Joined,
+}
+
+impl Timed {
+    pub const ALL: [Timed; 4] = [
+        Timed::Triplet,
+        Timed::Totals,
+        Timed::TotalsFromFlags,
+        Timed::Joined,
+    ];
+
+    pub fn name(self) -> &'static str {
+        match self {
+            Timed::Triplet => "triplet",
+            Timed::Totals => "totals",
+            Timed::TotalsFromFlags => "totals from flags",
+            Timed::Joined => "joined",
+        }
+    }
+
+    /// The word on the command line; `totals` gives both comparisons.
+    pub fn word(self) -> &'static str {
+        match self {
+            Timed::TotalsFromFlags => "totals",
+            other => other.name(),
+        }
+    }
+
+    fn door(self) -> Door {
+        match self {
+            Timed::Triplet => Door::Triplet,
+            Timed::Totals | Timed::TotalsFromFlags => Door::Totals,
+            Timed::Joined => Door::Joined,
+        }
+    }
+}
+
+#[derive(Clone, Copy, Debug, PartialEq)]
+pub struct Case {
+    pub timed: Timed,
+    pub atoms: u64,
+    pub averaged: bool,
+    pub symmetrized: bool,
+    pub half_flagged: bool,
+}
+
+impl Case {
+    /// Every case of what is timed; anchoring and symmetrizing do not touch totals alone.
+    pub fn all(timed: Timed) -> Vec<Case> {
+        let choices: &[(bool, bool)] = match timed {
+            Timed::Totals | Timed::TotalsFromFlags => &[(false, false)],
+            _ => &[(false, false), (true, false), (false, true), (true, true)],
+        };
+        let mut cases = Vec::new();
+        for &(averaged, symmetrized) in choices {
+            for half_flagged in [false, true] {
+                for atoms in [1, 2, 4, 8] {
+                    cases.push(Case {
+                        timed,
+                        atoms,
+                        averaged,
+                        symmetrized,
+                        half_flagged,
+                    });
+                }
+            }
+        }
+        cases
+    }
+
+    /// Anchoring and symmetrizing in words; none for totals alone.
+    pub fn choices(&self) -> &'static str {
+        match (self.timed.door(), self.averaged, self.symmetrized) {
+            (Door::Totals, _, _) => "",
+            (_, false, false) => "plain",
+            (_, true, false) => "averaged",
+            (_, false, true) => "plain, symmetrized",
+            (_, true, true) => "averaged, symmetrized",
+        }
+    }
+
+    pub fn flags(&self) -> &'static str {
+        if self.half_flagged {
+            "half flagged"
+        } else {
+            "no flags"
+        }
+    }
+
+    /// An accepted call with everything to work: all frequencies above the cutoff, all force constants nonzero, a
+    /// quarter of the pairs all-shortest, eight images of each atom.
+    pub fn call(&self) -> Call {
+        let mut random = Random::of(7, self.atoms, 0);
+        let random = &mut random;
+        let m = Measures {
+            atoms: self.atoms,
+            supercell: 8 * self.atoms,
+            first: 3 * self.atoms,
+            grid: 3,
+            vectors: 16 * self.atoms * self.atoms,
+        };
+        let l = Lengths::of(&m, Form::Compact);
+        let mut units = |count: u128| -> Vec<f64> { (0..count).map(|_| random.unit()).collect() };
+        let (vectors, eigenvectors) = (units(l.vectors), units(l.eigenvectors));
+        let force_constants = units(l.force_constants);
+        let (first_weights, second_weights) = (units(l.slots), units(l.slots));
+        let strengths = StrengthsSet {
+            measures: m,
+            settings: Settings {
+                anchoring: if self.averaged {
+                    Anchoring::Averaged
+                } else {
+                    Anchoring::Plain
+                },
+                cutoff: 0.01,
+            },
+            form: Form::Compact,
+            symmetry: if self.symmetrized {
+                Symmetry::Symmetrized
+            } else {
+                Symmetry::Off
+            },
+            mesh: [8; 3],
+            q_matrix: [1, 0, 0, 0, 1, 0, 0, 0, 1],
+            addresses: vec![1, 2, 3, 3, -2, 1, -4, 0, -4],
+            vectors,
+            multiplicity: multiplicity(random, &m),
+            p2s: (0..self.atoms as i64).map(|atom| 8 * atom).collect(),
+            s2p: (0..m.supercell as i64)
+                .map(|atom| atom - atom % 8)
+                .collect(),
+            masses: (0..self.atoms)
+                .map(|_| 10.0 + 50.0 * random.part())
+                .collect(),
+            bands: (0..m.first as i64).collect(),
+            frequencies: (0..l.frequencies)
+                .map(|_| 0.5 + 12.0 * random.part())
+                .collect(),
+            eigenvectors,
+            all_shortest: (0..l.all_shortest)
+                .map(|_| u8::from(random.chance(4)))
+                .collect(),
+            nonzero: vec![1; l.nonzero as usize],
+            flags: (0..l.slots)
+                .map(|_| u8::from(self.half_flagged && random.chance(2)))
+                .collect(),
+            force_constants,
+        };
+        let slots = l.slots as usize;
+        Call {
+            door: self.timed.door(),
+            kind: Kind::Usual,
+            planted: vec![],
+            list: 1,
+            triplets: vec![],
+            weighting: Weighting::PerSlot,
+            read_strengths: (0..slots).map(|_| random.part()).collect(),
+            foreign: None,
+            before: Buffers {
+                strengths: vec![0.0; slots],
+                totals: vec![0.0; m.first as usize],
+                work: vec![0.0; work_size(&m) as usize],
+            },
+            set: JoinedSet {
+                strengths,
+                triplet: [0, 1, 2],
+                bath: Bath {
+                    weight: 2,
+                    temperature: 6.25,
+                },
+                first_weights,
+                second_weights,
+            },
+        }
+    }
+}
+
+/// One or two vectors for each entry.
+fn multiplicity(random: &mut Random, m: &Measures) -> Vec<i64> {
+    (0..m.supercell * m.atoms)
+        .flat_map(|_| {
+            let count = random.between(1, 2);
+            [count, random.between(0, m.vectors as i64 - count)]
+        })
+        .collect()
+}

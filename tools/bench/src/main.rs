@@ -1,0 +1,93 @@
+//! Usage: bench [--rounds N] [--out FILE] [--svg FILE] [triplet | totals | joined ...]
+
+use bench::case::{Case, Timed};
+use bench::measure::measure;
+use bench::{plot, report};
+use differential::doors::Doors;
+use std::process::ExitCode;
+
+const USAGE: &str =
+    "usage: bench [--rounds N] [--out FILE] [--svg FILE] [triplet | totals | joined ...]";
+
+struct Wanted {
+    rounds: u32,
+    out: Option<String>,
+    svg: Option<String>,
+    words: Vec<String>,
+}
+
+fn wanted(mut args: impl Iterator<Item = String>) -> Option<Wanted> {
+    let mut wanted = Wanted {
+        rounds: 15,
+        out: None,
+        svg: None,
+        words: vec![],
+    };
+    while let Some(arg) = args.next() {
+        match arg.as_str() {
+            "--rounds" => wanted.rounds = args.next()?.parse().ok()?,
+            "--out" => wanted.out = Some(args.next()?),
+            "--svg" => wanted.svg = Some(args.next()?),
+            word if Timed::ALL.iter().any(|timed| timed.word() == word) => wanted.words.push(arg),
+            _ => return None,
+        }
+    }
+    Some(wanted)
+}
+
+#[cfg(feature = "library")]
+fn library() -> (&'static dyn Doors, &'static str) {
+    (&differential::library::Library, "The proved library")
+}
+
+/// Without the library the oracle stands in for it; its times say nothing.
+#[cfg(not(feature = "library"))]
+fn library() -> (&'static dyn Doors, &'static str) {
+    (
+        &differential::doors::ORACLE,
+        "The oracle in the library's place",
+    )
+}
+
+fn main() -> ExitCode {
+    let Some(wanted) = wanted(std::env::args().skip(1)) else {
+        eprintln!("{USAGE}");
+        return ExitCode::from(2);
+    };
+    match run(&wanted) {
+        Ok(()) => ExitCode::SUCCESS,
+        Err(what) => {
+            eprintln!("{what}");
+            ExitCode::FAILURE
+        }
+    }
+}
+
+fn run(wanted: &Wanted) -> Result<(), String> {
+    let (doors, name) = library();
+    let mut rows = Vec::new();
+    for timed in Timed::ALL {
+        if !wanted.words.is_empty() && !wanted.words.iter().any(|word| word == timed.word()) {
+            continue;
+        }
+        for case in Case::all(timed) {
+            eprint!(
+                "\r{} {} {} P = {}\x1b[K",
+                timed.name(),
+                case.choices(),
+                case.flags(),
+                case.atoms
+            );
+            rows.push((case, measure(&case, doors, wanted.rounds)?));
+        }
+    }
+    eprint!("\r\x1b[K");
+    let table = report::markdown(&rows, wanted.rounds, name);
+    print!("{table}");
+    let write = |file: &Option<String>, text: &str| match file {
+        Some(file) => std::fs::write(file, text).map_err(|e| format!("{file}: {e}")),
+        None => Ok(()),
+    };
+    write(&wanted.out, &table)?;
+    write(&wanted.svg, &plot::svg(&rows))
+}

@@ -1,0 +1,129 @@
+//! One case: the same bits first, then both sides in turn, the least time of several rounds each.
+
+use crate::case::{Case, Timed};
+use crate::rust_side::RustSide;
+use differential::call::{Buffers, Call};
+use differential::doors::{Doors, Lent};
+use std::hint::black_box;
+use std::time::Duration;
+
+/// A batch of calls takes about so long, so that the clock's own steps do not count.
+const BATCH: Duration = Duration::from_millis(2);
+
+/// Time as the C library's `clock_gettime` writes it.
+#[repr(C)]
+struct Timespec {
+    seconds: i64,
+    nanoseconds: i64,
+}
+
+extern "C" {
+    fn clock_gettime(clock: i32, time: *mut Timespec) -> i32;
+}
+
+const THREAD_CPU_TIME: i32 = 3;
+
+/// Processor time of this thread, so that other work on the machine counts less.
+fn now() -> Duration {
+    let mut time = Timespec {
+        seconds: 0,
+        nanoseconds: 0,
+    };
+    // Safety: the clock is written to a place of its own form.
+    let status = unsafe { clock_gettime(THREAD_CPU_TIME, &mut time) };
+    assert_eq!(status, 0, "the thread has a clock");
+    Duration::new(time.seconds as u64, time.nanoseconds as u32)
+}
+
+/// Times of one call in microseconds.
+#[derive(Clone, Copy, Debug)]
+pub struct Times {
+    pub rattle: f64,
+    pub rust: f64,
+}
+
+impl Times {
+    pub fn ratio(&self) -> f64 {
+        self.rattle / self.rust
+    }
+}
+
+fn lend(buffers: &mut Buffers) -> Lent<'_> {
+    Lent {
+        strengths: &mut buffers.strengths,
+        totals: &mut buffers.totals,
+        work: &mut buffers.work,
+    }
+}
+
+fn same(a: &[f64], b: &[f64]) -> bool {
+    a.iter()
+        .zip(b)
+        .all(|(x, y)| x.to_bits() == y.to_bits() || (x.is_nan() && y.is_nan()))
+}
+
+/// An error if the door refuses the case or leaves other bits than the Rust.
+fn check(case: &Case, call: &Call, doors: &dyn Doors, rust: &mut RustSide) -> Result<(), String> {
+    let mut buffers = call.before.clone();
+    let answer = doors.answer(call, lend(&mut buffers));
+    rust.work(case.timed);
+    if answer != 0 {
+        return Err(format!("{case:?}: answered {answer}"));
+    }
+    let strengths = matches!(case.timed, Timed::Triplet | Timed::Joined);
+    if strengths && !same(&buffers.strengths, &rust.strengths) {
+        return Err(format!("{case:?}: strengths differ"));
+    }
+    if case.timed != Timed::Triplet && !same(&buffers.totals, &rust.totals) {
+        return Err(format!("{case:?}: totals differ"));
+    }
+    Ok(())
+}
+
+fn batch(calls: u32, mut work: impl FnMut()) -> Duration {
+    let start = now();
+    for _ in 0..calls {
+        work();
+    }
+    now() - start
+}
+
+/// Calls that take about a batch's time.
+fn calls_in_batch(mut work: impl FnMut()) -> u32 {
+    let mut calls = 1;
+    while calls < 1 << 20 && batch(calls, &mut work) < BATCH {
+        calls *= 2;
+    }
+    calls
+}
+
+fn micros(time: Duration, calls: u32) -> f64 {
+    time.as_secs_f64() * 1e6 / f64::from(calls)
+}
+
+/// The least times of so many rounds, the two sides alternating.
+pub fn measure(case: &Case, doors: &dyn Doors, rounds: u32) -> Result<Times, String> {
+    let call = case.call();
+    let mut rust = RustSide::of(&call);
+    check(case, &call, doors, &mut rust)?;
+    let mut buffers = call.before.clone();
+    let mut rattle_work = || {
+        black_box(doors.answer(black_box(&call), lend(&mut buffers)));
+    };
+    let mut rust_work = || rust.work(black_box(case.timed));
+    let calls = (
+        calls_in_batch(&mut rattle_work),
+        calls_in_batch(&mut rust_work),
+    );
+    let mut least = Times {
+        rattle: f64::INFINITY,
+        rust: f64::INFINITY,
+    };
+    for _ in 0..rounds.max(1) {
+        let rattle = micros(batch(calls.0, &mut rattle_work), calls.0);
+        let rust = micros(batch(calls.1, &mut rust_work), calls.1);
+        least.rattle = least.rattle.min(rattle);
+        least.rust = least.rust.min(rust);
+    }
+    Ok(least)
+}

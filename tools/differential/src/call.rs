@@ -1,0 +1,229 @@
+//! One call of a door: everything that is handed in, and what the lent buffers hold before.
+
+use oracle::sets::*;
+
+#[derive(Clone, Copy, Debug, PartialEq, Eq)]
+pub enum Door {
+    Triplet,
+    List,
+    Totals,
+    Joined,
+}
+
+impl Door {
+    pub const ALL: [Door; 4] = [Door::Triplet, Door::List, Door::Totals, Door::Joined];
+
+    pub fn name(self) -> &'static str {
+        match self {
+            Door::Triplet => "triplet",
+            Door::List => "list",
+            Door::Totals => "totals",
+            Door::Joined => "joined",
+        }
+    }
+
+    pub fn named(name: &str) -> Option<Door> {
+        Door::ALL.into_iter().find(|door| door.name() == name)
+    }
+
+    /// The refusals that document 01 gives this door.
+    pub fn numbers(self) -> &'static [u8] {
+        match self {
+            Door::Triplet | Door::List => &[1, 2, 3, 4, 5, 6, 7, 9],
+            Door::Totals => &[1, 2, 3, 4, 7, 8],
+            Door::Joined => &[1, 2, 3, 4, 5, 6, 7, 8, 9],
+        }
+    }
+
+    pub fn has_strengths_tables(self) -> bool {
+        self != Door::Totals
+    }
+
+    pub fn has_bath(self) -> bool {
+        matches!(self, Door::Totals | Door::Joined)
+    }
+
+    pub fn has_totals(self) -> bool {
+        self.has_bath()
+    }
+}
+
+#[derive(Clone, Copy, Debug, PartialEq, Eq)]
+pub enum Kind {
+    Usual,
+    Coarse,
+    Wide,
+    Huge,
+    Tiny,
+    Idle,
+    Far,
+    Limits,
+    Edge,
+    OneFault,
+    TwoFaults,
+    Foreign,
+}
+
+impl Kind {
+    pub const ALL: [Kind; 12] = [
+        Kind::Usual,
+        Kind::Coarse,
+        Kind::Wide,
+        Kind::Huge,
+        Kind::Tiny,
+        Kind::Idle,
+        Kind::Far,
+        Kind::Limits,
+        Kind::Edge,
+        Kind::OneFault,
+        Kind::TwoFaults,
+        Kind::Foreign,
+    ];
+
+    pub fn name(self) -> &'static str {
+        match self {
+            Kind::Usual => "usual numbers",
+            Kind::Coarse => "zeros and equal numbers",
+            Kind::Wide => "any exponents",
+            Kind::Huge => "overflow inside",
+            Kind::Tiny => "underflow inside",
+            Kind::Idle => "nothing to work",
+            Kind::Far => "phases near the ends",
+            Kind::Limits => "measures at their limits",
+            Kind::Edge => "phases at the ends",
+            Kind::OneFault => "one fault",
+            Kind::TwoFaults => "two faults",
+            Kind::Foreign => "choice or array unknown",
+        }
+    }
+}
+
+/// What only a caller through C can hand in: a number that names no choice, or an array of another length.
+#[derive(Clone, Copy, Debug, PartialEq)]
+pub enum Foreign {
+    Anchoring(u8),
+    Form(u8),
+    Symmetry(u8),
+    Weighting(u8),
+    Mesh(usize),
+    Matrix(usize),
+    Triplet(usize),
+}
+
+/// Buffers lent for writing; a door that is lent none of a kind has an empty one.
+#[derive(Clone, Debug, Default)]
+pub struct Buffers {
+    pub strengths: Vec<f64>,
+    pub totals: Vec<f64>,
+    pub work: Vec<f64>,
+}
+
+/// Tables that a door is not handed are empty. Totals alone takes P, F, G, the cutoff, frequencies, flags, triplet,
+/// bath and weights from `set`.
+#[derive(Clone, Debug)]
+pub struct Call {
+    pub door: Door,
+    pub kind: Kind,
+    /// Number and place of each planted fault.
+    pub planted: Vec<(u8, String)>,
+    pub set: JoinedSet,
+    pub list: u64,
+    pub triplets: Vec<i64>,
+    pub weighting: Weighting,
+    /// Strengths as totals alone reads them.
+    pub read_strengths: Vec<f64>,
+    pub foreign: Option<Foreign>,
+    pub before: Buffers,
+}
+
+impl Call {
+    pub fn totals_set(&self) -> TotalsSet {
+        let tables = &self.set.strengths;
+        TotalsSet {
+            measures: TotalsMeasures {
+                atoms: tables.measures.atoms,
+                first: tables.measures.first,
+                grid: tables.measures.grid,
+            },
+            cutoff: tables.settings.cutoff,
+            weighting: self.weighting,
+            bath: self.set.bath,
+            triplet: self.set.triplet,
+            frequencies: tables.frequencies.clone(),
+            strengths: self.read_strengths.clone(),
+            flags: tables.flags.clone(),
+            first_weights: self.set.first_weights.clone(),
+            second_weights: self.set.second_weights.clone(),
+        }
+    }
+
+    /// The triplets that the door works.
+    pub fn worked_triplets(&self) -> Vec<[i64; 3]> {
+        match self.door {
+            Door::List => self
+                .triplets
+                .chunks_exact(3)
+                .map(|row| [row[0], row[1], row[2]])
+                .collect(),
+            _ => vec![self.set.triplet],
+        }
+    }
+
+    fn integer_tables(&self) -> [(&'static str, &[i64]); 6] {
+        let t = &self.set.strengths;
+        [
+            ("triplets", &self.triplets),
+            ("addresses", &t.addresses),
+            ("multiplicity", &t.multiplicity),
+            ("p2s", &t.p2s),
+            ("s2p", &t.s2p),
+            ("bands", &t.bands),
+        ]
+    }
+
+    fn number_tables(&self) -> [(&'static str, &[f64]); 8] {
+        let t = &self.set.strengths;
+        [
+            ("vectors", &t.vectors),
+            ("masses", &t.masses),
+            ("frequencies", &t.frequencies),
+            ("eigenvectors", &t.eigenvectors),
+            ("force constants", &t.force_constants),
+            ("first weights", &self.set.first_weights),
+            ("second weights", &self.set.second_weights),
+            ("strengths read", &self.read_strengths),
+        ]
+    }
+
+    fn byte_tables(&self) -> [(&'static str, &[u8]); 3] {
+        let t = &self.set.strengths;
+        [
+            ("all-shortest", &t.all_shortest),
+            ("nonzero", &t.nonzero),
+            ("flags", &t.flags),
+        ]
+    }
+
+    /// The first table lent for reading that differs, if one was written.
+    pub fn changed_table(&self, after: &Call) -> Option<&'static str> {
+        let integers = self
+            .integer_tables()
+            .into_iter()
+            .zip(after.integer_tables());
+        let numbers = self.number_tables().into_iter().zip(after.number_tables());
+        let bytes = self.byte_tables().into_iter().zip(after.byte_tables());
+        let same_bits = |a: &[f64], b: &[f64]| {
+            a.len() == b.len() && a.iter().zip(b).all(|(x, y)| x.to_bits() == y.to_bits())
+        };
+        integers
+            .filter(|(a, b)| a.1 != b.1)
+            .map(|(a, _)| a.0)
+            .chain(
+                numbers
+                    .filter(|(a, b)| !same_bits(a.1, b.1))
+                    .map(|(a, _)| a.0),
+            )
+            .chain(bytes.filter(|(a, b)| a.1 != b.1).map(|(a, _)| a.0))
+            .next()
+    }
+}

@@ -1,0 +1,177 @@
+//! One call through a door, and its outcome beside the oracle's: the answer and every bit of every buffer.
+
+use crate::call::{Buffers, Call};
+use crate::doors::{Doors, Lent, ORACLE};
+use oracle::sets::{work_size, Symmetry};
+use std::panic::{catch_unwind, AssertUnwindSafe};
+
+/// Numbers before and behind each lent buffer that no door may touch.
+const GUARD: usize = 16;
+const GUARD_BITS: u64 = 0x7FF4_5A5A_A5A5_0F0F;
+
+/// What a call left.
+pub struct Outcome {
+    pub answer: u8,
+    pub after: Buffers,
+}
+
+/// Works the call; an error names what was touched that must not be, or that the door did not come back.
+pub fn work(doors: &dyn Doors, call: &Call) -> Result<Outcome, String> {
+    let handed = call.clone();
+    let mut rooms = [
+        &call.before.strengths,
+        &call.before.totals,
+        &call.before.work,
+    ]
+    .map(|before| guarded(before));
+    let answer = catch_unwind(AssertUnwindSafe(|| {
+        let [strengths, totals, work] = &mut rooms;
+        let lent = Lent {
+            strengths: inside(strengths),
+            totals: inside(totals),
+            work: inside(work),
+        };
+        doors.answer(&handed, lent)
+    }))
+    .map_err(|_| "stopped with a panic".to_string())?;
+    if let Some(table) = call.changed_table(&handed) {
+        return Err(format!("{table}, lent for reading, changed"));
+    }
+    if !rooms.iter().all(|room| guards_stand(room)) {
+        return Err("wrote outside a buffer".to_string());
+    }
+    let [strengths, totals, work] = rooms.map(|room| room[GUARD..room.len() - GUARD].to_vec());
+    Ok(Outcome {
+        answer,
+        after: Buffers {
+            strengths,
+            totals,
+            work,
+        },
+    })
+}
+
+fn guarded(before: &[f64]) -> Vec<f64> {
+    let guard = [f64::from_bits(GUARD_BITS); GUARD];
+    [&guard[..], before, &guard[..]].concat()
+}
+
+fn inside(room: &mut [f64]) -> &mut [f64] {
+    let end = room.len() - GUARD;
+    &mut room[GUARD..end]
+}
+
+fn guards_stand(room: &[f64]) -> bool {
+    let end = room.len() - GUARD;
+    room[..GUARD]
+        .iter()
+        .chain(&room[end..])
+        .all(|x| x.to_bits() == GUARD_BITS)
+}
+
+/// The oracle's outcome of the call.
+pub fn expected(call: &Call) -> Outcome {
+    work(&ORACLE, call).unwrap_or_else(|what| panic!("the oracle {what}"))
+}
+
+/// Which entries an accepted call writes: strengths unflagged or symmetrized, all totals, the first W of work.
+struct Written<'a> {
+    call: &'a Call,
+    accepted: bool,
+}
+
+impl Written<'_> {
+    fn strength(&self, place: usize) -> bool {
+        let set = &self.call.set.strengths;
+        self.accepted && (set.symmetry == Symmetry::Symmetrized || set.flags[place] == 0)
+    }
+
+    fn total(&self, _place: usize) -> bool {
+        self.accepted
+    }
+
+    fn work(&self, place: usize) -> bool {
+        self.accepted && (place as u128) < work_size(&self.call.set.strengths.measures)
+    }
+}
+
+/// The first entry of a buffer that differs: where the oracle wrote, any NaN equals any NaN; elsewhere the bits count.
+fn first_difference(
+    name: &str,
+    oracle: &[f64],
+    door: &[f64],
+    written: impl Fn(usize) -> bool,
+) -> Option<String> {
+    let same = |place: usize| {
+        let (a, b) = (oracle[place], door[place]);
+        a.to_bits() == b.to_bits() || (a.is_nan() && b.is_nan() && written(place))
+    };
+    let place = (0..oracle.len()).find(|&place| !same(place))?;
+    Some(format!(
+        "{name} differ first at {place}: oracle {:016x}, door {:016x}",
+        oracle[place].to_bits(),
+        door[place].to_bits()
+    ))
+}
+
+/// How an outcome differs from the oracle's, if it does.
+pub fn difference(call: &Call, oracle: &Outcome, door: &Result<Outcome, String>) -> Option<String> {
+    let door = match door {
+        Ok(door) => door,
+        Err(what) => return Some(what.clone()),
+    };
+    if oracle.answer != door.answer {
+        return Some(format!(
+            "answers differ: oracle {}, door {}",
+            oracle.answer, door.answer
+        ));
+    }
+    let written = Written {
+        call,
+        accepted: oracle.answer == 0,
+    };
+    let (a, b) = (&oracle.after, &door.after);
+    first_difference("strengths", &a.strengths, &b.strengths, |place| {
+        written.strength(place)
+    })
+    .or_else(|| first_difference("totals", &a.totals, &b.totals, |place| written.total(place)))
+    .or_else(|| first_difference("work", &a.work, &b.work, |place| written.work(place)))
+}
+
+/// The oracle's own outcome against the rule of what is written; for the self-test.
+pub fn untouched_stand(call: &Call, outcome: &Outcome) -> bool {
+    let written = Written {
+        call,
+        accepted: outcome.answer == 0,
+    };
+    let stand = |before: &[f64], after: &[f64], written: &dyn Fn(usize) -> bool| {
+        before
+            .iter()
+            .zip(after)
+            .enumerate()
+            .all(|(place, (x, y))| written(place) || x.to_bits() == y.to_bits())
+    };
+    let (a, b) = (&call.before, &outcome.after);
+    stand(&a.strengths, &b.strengths, &|place| written.strength(place))
+        && stand(&a.totals, &b.totals, &|place| written.total(place))
+        && stand(&a.work, &b.work, &|place| written.work(place))
+}
+
+#[cfg(test)]
+mod tests {
+    use super::*;
+
+    #[test]
+    fn guards_show_a_write_beside_the_buffer() {
+        for before in [vec![], vec![1.0, f64::NAN]] {
+            let room = guarded(&before);
+            assert!(guards_stand(&room));
+            assert_eq!(inside(&mut room.clone()).len(), before.len());
+            for place in [0, GUARD - 1, GUARD + before.len(), room.len() - 1] {
+                let mut touched = room.clone();
+                touched[place] = 0.0;
+                assert!(!guards_stand(&touched));
+            }
+        }
+    }
+}

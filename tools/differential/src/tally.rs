@@ -1,0 +1,107 @@
+//! Counts of what was compared: for each door the answers, the kinds and the planted faults.
+
+use crate::call::{Call, Door, Kind};
+use crate::doors::UNKNOWN;
+
+#[derive(Clone, Default)]
+struct DoorTally {
+    sets: u64,
+    /// By answer; 10 stands for an unknown choice.
+    answers: [u64; 11],
+    kinds: [u64; 12],
+    alone: [u64; 10],
+    pairs: [[u64; 10]; 10],
+}
+
+#[derive(Default)]
+pub struct Tally {
+    doors: [DoorTally; 4],
+    pub mismatches: u64,
+}
+
+impl Tally {
+    pub fn note(&mut self, call: &Call, answer: u8) {
+        let tally = &mut self.doors[call.door as usize];
+        tally.sets += 1;
+        let place = if answer == UNKNOWN {
+            10
+        } else {
+            usize::from(answer.min(9))
+        };
+        tally.answers[place] += 1;
+        tally.kinds[call.kind as usize] += 1;
+        match call.planted[..] {
+            [(a, _)] => tally.alone[usize::from(a)] += 1,
+            [(a, _), (b, _)] => tally.pairs[usize::from(a)][usize::from(b)] += 1,
+            _ => (),
+        }
+    }
+
+    pub fn sets(&self) -> u64 {
+        self.doors.iter().map(|tally| tally.sets).sum()
+    }
+
+    /// Sets of a door with this answer.
+    pub fn answers(&self, door: Door, answer: u8) -> u64 {
+        self.doors[door as usize].answers[usize::from(answer)]
+    }
+
+    /// Sets of a door with these two faults planted, the lower first.
+    pub fn pairs(&self, door: Door, lower: u8, higher: u8) -> u64 {
+        self.doors[door as usize].pairs[usize::from(lower)][usize::from(higher)]
+    }
+
+    pub fn alone(&self, door: Door, number: u8) -> u64 {
+        self.doors[door as usize].alone[usize::from(number)]
+    }
+
+    /// Tables of answers, kinds and pairs of faults.
+    pub fn report(&self) -> String {
+        let worked: Vec<Door> = Door::ALL
+            .into_iter()
+            .filter(|&door| self.doors[door as usize].sets > 0)
+            .collect();
+        let mut text = format!("{:10}{:>9}{:>9}", "door", "sets", "accepted");
+        for number in 1..=9 {
+            text += &format!("{number:>7}");
+        }
+        text += "    255\n";
+        for &door in &worked {
+            let tally = &self.doors[door as usize];
+            text += &format!("{:10}{:>9}{:>9}", door.name(), tally.sets, tally.answers[0]);
+            for count in &tally.answers[1..] {
+                text += &format!("{count:>7}");
+            }
+            text += "\n";
+        }
+        text += &format!("\n{:26}", "kind");
+        for &door in &worked {
+            text += &format!("{:>9}", door.name());
+        }
+        text += "\n";
+        for kind in Kind::ALL {
+            text += &format!("{:26}", kind.name());
+            for &door in &worked {
+                text += &format!("{:>9}", self.doors[door as usize].kinds[kind as usize]);
+            }
+            text += "\n";
+        }
+        for &door in &worked {
+            text += &self.pairs_report(door);
+        }
+        text
+    }
+
+    fn pairs_report(&self, door: Door) -> String {
+        let numbers = door.numbers();
+        let mut text = format!("\nfaults planted, {}: alone, then with each\n", door.name());
+        for &lower in numbers {
+            text += &format!("{lower:>4}{:>8} ", self.alone(door, lower));
+            for &higher in numbers.iter().filter(|&&higher| higher >= lower) {
+                text += &format!("{higher:>5}:{:<5}", self.pairs(door, lower, higher));
+            }
+            text += "\n";
+        }
+        text
+    }
+}
