@@ -1,0 +1,77 @@
+-- An array whose entries are read one by one is its slice; and a call's answer is made from the door's.
+use Prim.Native.Nat.{ℕ, zero, suc, _<_, _≤_, _^_}
+use mathlib.Core.Path.{_≡_, refl, sym, ap, _∙_}
+use mathlib.Core.Bool.{Bool, true, false, _&&_}
+use mathlib.Core.List.{List, [], _∷_}
+use native.Mathlib.Omega.{arith}
+use lib.IntN.{ℤ, pos}
+use lib.ListN.{length, getD}
+use lib.Dec.{leb, eqb}
+use lib.Signed.{mag}
+use borrow.Author.Needs.{sfits-of}
+use borrow.Author.Tests.{eqb-true}
+use mir.Val.{toZ, ofZ, hbits}
+use mir.ValLaws.{toZ-ofZ}
+use mir.Syntax.{w64}
+use lib.Ieee.{Float}
+use Rattle.phonon.specs.declared.Answer.{Answer}
+use Rattle.phonon.specs.Sets.{TripletSet, TotalsSet}
+use Rattle.phonon.specs.Doors.{numberOf, StrengthsOutcome, TotalsOutcome, tripletOutcome, totalsOutcome}
+use Rattle.phonon.proofs.Accepted.{and-both}
+use Rattle.wirambolo_c.specs.Foreign.{known, tablesRead, Strengths, Totals, tripletAnswer, totalsAnswer}
+
+-- ---- arrays
+
+-- a number that was read is passed on by its bits, which say the same number
+pub read : {z : ℤ} → mag z < 2 ^ hbits w64 → toZ w64 (ofZ w64 z) ≡ z
+read h = toZ-ofZ w64 _ (sfits-of h)
+
+-- n entries from entry k on, one by one
+unfoldable pub listed : ℕ → ℕ → List ℤ → List ℤ
+listed k zero l = []
+listed k (suc n) l = getD l k (pos 0) ∷ listed (suc k) n l
+
+listed-cons : (k n : ℕ) (x : ℤ) (l : List ℤ) → listed (suc k) n (x ∷ l) ≡ listed k n l
+unfolding listed
+listed-cons k zero x l = refl
+listed-cons k (suc n) x l = ap (getD l k (pos 0) ∷_) (listed-cons (suc k) n x l)
+
+listed-whole : (l : List ℤ) → listed 0 (length l) l ≡ l
+unfolding listed
+listed-whole [] = refl
+listed-whole (x ∷ l) = ap (x ∷_) (listed-cons 0 (length l) x l ∙ listed-whole l)
+
+pub spelt : (n : ℕ) (l : List ℤ) → length l ≡ n → listed 0 n l ≡ l
+spelt n l e = rw e at (listed-whole l)
+
+-- the lengths of tables that are read
+pub grid-lengths : (a f y : ℕ) (mesh matrix : List ℤ) → tablesRead a f y mesh matrix ≡ true → (length mesh ≡ 3) × (length matrix ≡ 9)
+unfolding tablesRead
+grid-lengths a f y mesh matrix e =
+    let choices = known a && known f && known y in
+    let p = and-both (choices && eqb (length mesh) 3) _ e in
+    (eqb-true _ _ (and-both choices _ (p .0) .1), eqb-true _ _ (p .1))
+
+-- ---- answers
+
+pub triplet-unread : (b : Bool) (s : TripletSet) → b ≡ false
+    → _≡_ {A = Strengths} (record { answer = 255; strengths = s .strengths; work = s .work }) (tripletAnswer b s)
+unfolding tripletAnswer
+triplet-unread b s e = rw e refl
+
+pub triplet-answered : (b : Bool) (s : TripletSet) {a : Answer} {v w : List Float} {n : ℕ} → b ≡ true
+    → _≡_ {A = StrengthsOutcome} (record { answer = a; strengths = v; work = w }) (tripletOutcome s) → n ≡ numberOf a
+    → _≡_ {A = Strengths} (record { answer = n; strengths = v; work = w }) (tripletAnswer b s)
+unfolding tripletAnswer
+triplet-answered b s e h p = rw (e, p) (ap (λ o. record { answer = numberOf (o .answer); strengths = o .strengths; work = o .work }) h)
+
+pub totals-unread : (b : Bool) (s : TotalsSet) → b ≡ false
+    → _≡_ {A = Totals} (record { answer = 255; totals = s .totals }) (totalsAnswer b s)
+unfolding totalsAnswer
+totals-unread b s e = rw e refl
+
+pub totals-answered : (b : Bool) (s : TotalsSet) {a : Answer} {v : List Float} {n : ℕ} → b ≡ true
+    → _≡_ {A = TotalsOutcome} (record { answer = a; totals = v }) (totalsOutcome s) → n ≡ numberOf a
+    → _≡_ {A = Totals} (record { answer = n; totals = v }) (totalsAnswer b s)
+unfolding totalsAnswer
+totals-answered b s e h p = rw (e, p) (ap (λ o. record { answer = numberOf (o .answer); totals = o .totals }) h)

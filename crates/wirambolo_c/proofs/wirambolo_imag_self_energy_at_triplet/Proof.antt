@@ -1,0 +1,74 @@
+-- A call that cannot be read is answered with 255 and left as it is; any other is the door's.
+use mathlib.Core.Path.{_≡_, sym, _∙_}
+use mathlib.Core.Bool.{true, false, _&&_}
+use lib.Dec.{eqb}
+use lib.ListN.{length}
+use borrow.Author.Needs.{needs}
+use borrow.Author.Tests.{eqb-true, not-true, not-false}
+use mir.ValLaws.{toZ-ofZ}
+use mir.Syntax.{w64}
+use Rattle.phonon.specs.Sets.{TotalsSet}
+use Rattle.phonon.proofs.Accepted.{and-both}
+use Rattle.wirambolo_c.specs.Foreign.{known, weightsOf}
+use Rattle.wirambolo_c.proofs.Laws.{totals-unread, totals-answered}
+use Rattle.wirambolo_c.proofs.wirambolo_imag_self_energy_at_triplet.Statement.{statement}
+use Rattle.wirambolo_c.proofs.wirambolo_imag_self_energy_at_triplet.Tie as tie
+
+-- the set that the contract speaks of
+abbrev handed : tie.Start → TotalsSet
+handed s =
+    record {
+      measures = record { atoms = s .args .atoms; first = s .args .first; grid = s .args .grid };
+      weights = weightsOf (s .args .weights);
+      triplet = s .args .triplet .now;
+      frequencies = s .args .frequencies .now;
+      cutoff = s .args .cutoff;
+      flags = s .args .flags .now;
+      strengths = s .args .strengths .now;
+      bath = record { weight = s .args .weight; temperature = s .args .temperature };
+      first = s .args .«first-weights» .now;
+      second = s .args .«second-weights» .now;
+      totals = s .args .totals .now;
+    }
+
+is-known-requires : tie.Need-is-known-requires
+is-known-requires c κs = search needs
+
+returns : tie.Need-returns
+returns c =
+    let s = c .before .before .before .before .before .before .before .before  in
+    totals-unread _ (handed s) (rw (sym (c .before .is-known .ensures)) (not-true _ (c .if1 .taken)))
+
+weights-of-requires : tie.Need-weights-of-requires
+weights-of-requires c κs = search needs
+
+three-requires : tie.Need-three-requires
+three-requires c κs = eqb-true _ _ (and-both (c .before .before .is-known .result) _ (not-false _ (c .before .if1 .left)) .1)
+
+imag-self-energy-at-triplet-requires : tie.Need-imag-self-energy-at-triplet-requires
+imag-self-energy-at-triplet-requires c κs = search needs
+
+number-of-requires : tie.Need-number-of-requires
+number-of-requires c κs = search needs
+
+same-length : tie.Need-same-length
+same-length c = search needs
+
+returns-2 : tie.Need-returns-2
+returns-2 c =
+    let s = c .before .before .before .before .before .before .before .before .before .before .before .before .before .before .before  in
+    totals-answered _ (handed s) (rw (sym (c .before .before .before .before .before .before .before .before  .is-known .ensures)) (not-false _ (c .before .before .before .before .before .before .before  .if1 .left)))
+    (rw (c .before .before .before .before .before  .three .ensures, c .before .before .before .before .before .before  .weights-of .ensures, toZ-ofZ w64 _ (s .fits .weight)) at (c .before .before .before  .imag-self-energy-at-triplet .ensures)) (c .number-of .ensures)
+
+pub wirambolo-imag-self-energy-at-triplet-spec : {M : Type 1} → statement M
+wirambolo-imag-self-energy-at-triplet-spec =
+    tie.close
+    (tie.spec
+    is-known-requires
+    returns
+    weights-of-requires
+    three-requires
+    imag-self-energy-at-triplet-requires
+    number-of-requires
+    same-length
+    returns-2)

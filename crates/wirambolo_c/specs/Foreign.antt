@@ -1,0 +1,75 @@
+-- What a call from C means: choices are numbers, arrays are slices, and the answer is one number.
+use Prim.Native.Nat.{ℕ}
+use mathlib.Core.Bool.{Bool, true, false, _&&_, cond}
+use mathlib.Core.List.{List}
+use lib.Dec.{leb, eqb}
+use lib.IntN.{ℤ}
+use lib.Ieee.{Float}
+use lib.ListN.{length}
+use Rattle.phonon.specs.declared.Anchoring.{Anchoring}
+use Rattle.phonon.specs.declared.Anchoring.the-variants.{Plain, Averaged}
+use Rattle.phonon.specs.declared.Form.{Form}
+use Rattle.phonon.specs.declared.Form.the-variants.{Compact, Full}
+use Rattle.phonon.specs.declared.Symmetry.{Symmetry}
+use Rattle.phonon.specs.declared.Symmetry.the-variants.{Off, Symmetrized}
+use Rattle.phonon.specs.declared.Weights.{Weights}
+use Rattle.phonon.specs.declared.Weights.the-variants.{PerSlot, AtFrequencyPoint}
+use Rattle.phonon.specs.Sets.{TripletSet, ListSet, TotalsSet, JoinedSet}
+use Rattle.phonon.specs.Doors.{numberOf, tripletOutcome, listOutcome, totalsOutcome, joinedOutcome}
+
+-- ---- choices: 0 and 1, in the order of the enums. No other number is known.
+
+unfoldable pub known : ℕ → Bool
+known x = leb x 1
+
+unfoldable pub anchoringOf : ℕ → Anchoring
+anchoringOf x = cond (eqb x 0) Plain Averaged
+
+unfoldable pub formOf : ℕ → Form
+formOf x = cond (eqb x 0) Compact Full
+
+unfoldable pub symmetryOf : ℕ → Symmetry
+symmetryOf x = cond (eqb x 0) Off Symmetrized
+
+unfoldable pub weightsOf : ℕ → Weights
+weightsOf x = cond (eqb x 0) PerSlot AtFrequencyPoint
+
+-- ---- whether the choices and the arrays of fixed length can be read at all
+
+-- of the tables: three choices, the mesh and the q matrix
+unfoldable pub tablesRead : ℕ → ℕ → ℕ → List ℤ → List ℤ → Bool
+tablesRead anchoring form symmetry mesh matrix =
+    known anchoring && known form && known symmetry && eqb (length mesh) 3 && eqb (length matrix) 9
+
+-- ---- the answers: 255 of a call that cannot be read, which leaves everything as it is; otherwise document 01's number
+
+pub record Strengths : Type 0 where
+  pub answer : ℕ
+  pub strengths : List Float
+  pub work : List Float
+
+pub record Totals : Type 0 where
+  pub answer : ℕ
+  pub totals : List Float
+
+pub record Joined : Type 0 where
+  pub answer : ℕ
+  pub strengths : List Float
+  pub totals : List Float
+  pub work : List Float
+
+unfoldable pub tripletAnswer : Bool → TripletSet → Strengths
+tripletAnswer true s = record { answer = numberOf (tripletOutcome s .answer); strengths = tripletOutcome s .strengths; work = tripletOutcome s .work }
+tripletAnswer false s = record { answer = 255; strengths = s .strengths; work = s .work }
+
+unfoldable pub listAnswer : Bool → ListSet → Strengths
+listAnswer true s = record { answer = numberOf (listOutcome s .answer); strengths = listOutcome s .strengths; work = listOutcome s .work }
+listAnswer false s = record { answer = 255; strengths = s .strengths; work = s .work }
+
+unfoldable pub totalsAnswer : Bool → TotalsSet → Totals
+totalsAnswer true s = record { answer = numberOf (totalsOutcome s .answer); totals = totalsOutcome s .totals }
+totalsAnswer false s = record { answer = 255; totals = s .totals }
+
+unfoldable pub joinedAnswer : Bool → JoinedSet → Joined
+joinedAnswer true s = record { answer = numberOf (joinedOutcome s .answer); strengths = joinedOutcome s .strengths; totals = joinedOutcome s .totals; work = joinedOutcome s .work }
+joinedAnswer false s = record { answer = 255; strengths = s .strengths; totals = s .totals; work = s .work }

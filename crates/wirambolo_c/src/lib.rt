@@ -1,0 +1,217 @@
+// The doors for programs in C and Rust: choices as numbers, arrays of fixed length as slices, one number as the answer.
+use phonon::Anchoring;
+use phonon::Answer;
+use phonon::Bath;
+use phonon::Form;
+use phonon::Measures;
+use phonon::Settings;
+use phonon::Symmetry;
+use phonon::TotalsMeasures;
+use phonon::Weights;
+ghost use mathlib.Core.Path.{_≡_};
+ghost use mathlib.Core.Bool.{_&&_};
+ghost use lib.Dec.{eqb};
+ghost use lib.ListN.{length};
+ghost use Rattle.phonon.specs.Doors.{numberOf};
+ghost use Rattle.wirambolo_c.specs.Foreign as Foreign;
+ghost use Rattle.wirambolo_c.specs.Foreign.{Strengths, Totals};
+
+// ---- choices, arrays and answers
+
+fn is_known(x: u8) -> bool
+    ensures { λ r. ⌜ r ≡ Foreign.known x ⌝ }
+{
+    x <= 1
+}
+
+fn anchoring_of(x: u8) -> Anchoring
+    ensures { λ r. ⌜ r ≡ Foreign.anchoringOf x ⌝ }
+{
+    if x == 0 {
+        return Anchoring::Plain;
+    }
+    Anchoring::Averaged
+}
+
+fn form_of(x: u8) -> Form
+    ensures { λ r. ⌜ r ≡ Foreign.formOf x ⌝ }
+{
+    if x == 0 {
+        return Form::Compact;
+    }
+    Form::Full
+}
+
+fn symmetry_of(x: u8) -> Symmetry
+    ensures { λ r. ⌜ r ≡ Foreign.symmetryOf x ⌝ }
+{
+    if x == 0 {
+        return Symmetry::Off;
+    }
+    Symmetry::Symmetrized
+}
+
+fn weights_of(x: u8) -> Weights
+    ensures { λ r. ⌜ r ≡ Foreign.weightsOf x ⌝ }
+{
+    if x == 0 {
+        return Weights::PerSlot;
+    }
+    Weights::AtFrequencyPoint
+}
+
+fn three(s: &[i64]) -> [i64; 3]
+    requires { ⌜ length (now s) ≡ 3 ⌝ }
+    ensures { λ r. ⌜ r ≡ now (s .entry) ⌝ }
+{
+    [s[0], s[1], s[2]]
+}
+
+fn nine(s: &[i64]) -> [i64; 9]
+    requires { ⌜ length (now s) ≡ 9 ⌝ }
+    ensures { λ r. ⌜ r ≡ now (s .entry) ⌝ }
+{
+    [s[0], s[1], s[2], s[3], s[4], s[5], s[6], s[7], s[8]]
+}
+
+fn number_of(a: Answer) -> u8
+    ensures { λ r. ⌜ r ≡ numberOf a ⌝ }
+{
+    match a {
+        Answer::Accepted => 0,
+        Answer::Refused(n) => n,
+    }
+}
+
+// Whether the choices are known and the arrays of the grid have their lengths.
+fn are_tables_read(anchoring: u8, form: u8, symmetry: u8, mesh: &[i64], matrix: &[i64]) -> bool
+    ensures { λ r. ⌜ r ≡ Foreign.tablesRead anchoring form symmetry (now (mesh .entry)) (now (matrix .entry)) ⌝ }
+{
+    is_known(anchoring)
+        & is_known(form)
+        & is_known(symmetry)
+        & (mesh.len() == 3)
+        & (matrix.len() == 9)
+}
+
+// ---- the doors
+
+// One triplet.
+#[no_mangle]
+pub extern "C" fn wirambolo_get_interaction_at_triplet(
+    atoms: usize,
+    supercell: usize,
+    first: usize,
+    grid: usize,
+    vectors_count: usize,
+    anchoring: u8,
+    cutoff: f64,
+    form: u8,
+    symmetry: u8,
+    mesh: &[i64],
+    matrix: &[i64],
+    triplet: &[i64],
+    addresses: &[i64],
+    vectors: &[f64],
+    multiplicity: &[i64],
+    p2s: &[i64],
+    s2p: &[i64],
+    masses: &[f64],
+    bands: &[i64],
+    frequencies: &[f64],
+    eigenvectors: &[f64],
+    shortest: &[u8],
+    nonzero: &[u8],
+    constants: &[f64],
+    flags: &[u8],
+    strengths: &mut [f64],
+    work: &mut [f64],
+) -> u8
+    ensures { λ r. ⌜ _≡_ {A = Strengths} (record { answer = r; strengths = now (strengths .exit); work = now (work .exit) }) (Foreign.tripletAnswer (Foreign.tablesRead anchoring form symmetry (now (mesh .entry)) (now (matrix .entry)) && eqb (length (now (triplet .entry))) 3) (record { tables = record { measures = record { atoms = atoms; supercell = supercell; first = first; grid = grid; vectors = «vectors_count» }; settings = record { anchoring = Foreign.anchoringOf anchoring; cutoff = cutoff }; symmetry = Foreign.symmetryOf symmetry; crystal = record { vectors = now (vectors .entry); multiplicity = now (multiplicity .entry); masses = now (masses .entry); forces = record { form = Foreign.formOf form; p2s = now (p2s .entry); s2p = now (s2p .entry); shortest = now (shortest .entry); nonzero = now (nonzero .entry); constants = now (constants .entry) } }; grid = record { mesh = now (mesh .entry); matrix = now (matrix .entry); addresses = now (addresses .entry) }; bands = now (bands .entry); phonons = record { frequencies = now (frequencies .entry); eigenvectors = now (eigenvectors .entry) } }; triplet = now (triplet .entry); flags = now (flags .entry); strengths = now (strengths .entry); work = now (work .entry) })) ⌝ }
+{
+    if !(are_tables_read(anchoring, form, symmetry, mesh, matrix) & (triplet.len() == 3)) {
+        return 255;
+    }
+    let m = Measures {
+        atoms: atoms,
+        supercell: supercell,
+        first: first,
+        grid: grid,
+        vectors: vectors_count,
+    };
+    let settings = Settings {
+        anchoring: anchoring_of(anchoring),
+        cutoff: cutoff,
+    };
+    number_of(interaction::get_interaction_at_triplet(
+        m,
+        settings,
+        form_of(form),
+        symmetry_of(symmetry),
+        three(mesh),
+        nine(matrix),
+        three(triplet),
+        addresses,
+        vectors,
+        multiplicity,
+        p2s,
+        s2p,
+        masses,
+        bands,
+        frequencies,
+        eigenvectors,
+        shortest,
+        nonzero,
+        constants,
+        flags,
+        strengths,
+        work,
+    ))
+}
+
+// Totals alone.
+#[no_mangle]
+pub extern "C" fn wirambolo_imag_self_energy_at_triplet(
+    atoms: usize,
+    first: usize,
+    grid: usize,
+    weights: u8,
+    triplet: &[i64],
+    frequencies: &[f64],
+    cutoff: f64,
+    flags: &[u8],
+    strengths: &[f64],
+    weight: i64,
+    temperature: f64,
+    first_weights: &[f64],
+    second_weights: &[f64],
+    totals: &mut [f64],
+) -> u8
+    ensures { λ r. ⌜ _≡_ {A = Totals} (record { answer = r; totals = now (totals .exit) }) (Foreign.totalsAnswer (Foreign.known weights && eqb (length (now (triplet .entry))) 3) (record { measures = record { atoms = atoms; first = first; grid = grid }; weights = Foreign.weightsOf weights; triplet = now (triplet .entry); frequencies = now (frequencies .entry); cutoff = cutoff; flags = now (flags .entry); strengths = now (strengths .entry); bath = record { weight = weight; temperature = temperature }; first = now («first_weights» .entry); second = now («second_weights» .entry); totals = now (totals .entry) })) ⌝ }
+{
+    if !(is_known(weights) & (triplet.len() == 3)) {
+        return 255;
+    }
+    let m = TotalsMeasures {
+        atoms: atoms,
+        first: first,
+        grid: grid,
+    };
+    let bath = Bath {
+        weight: weight,
+        temperature: temperature,
+    };
+    number_of(imag_self_energy::imag_self_energy_at_triplet(
+        m,
+        weights_of(weights),
+        three(triplet),
+        frequencies,
+        cutoff,
+        flags,
+        strengths,
+        bath,
+        first_weights,
+        second_weights,
+        totals,
+    ))
+}
