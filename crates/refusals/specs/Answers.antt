@@ -1,6 +1,8 @@
 -- What the tests of a set answer.
 use Prim.Native.Nat.{ℕ, zero, suc}
 use mathlib.Core.Bool.{Bool, true, false}
+use Rattle.phonon.specs.declared.Answer.{Answer}
+use Rattle.phonon.specs.declared.Answer.the-variants.{Accepted, Refused}
 use Rattle.phonon.specs.declared.Measures.{Measures}
 use Rattle.phonon.specs.declared.Form.{Form}
 use Rattle.phonon.specs.declared.Sizes.{Sizes}
@@ -23,3 +25,8 @@ measuredOf m form = withSizes (measuresOk m) (sizesOf m form)
 unfoldable pub checkedOf : ℕ → Sizes → Checked
 checkedOf zero z = Good z
 checkedOf (suc n) z = Bad (suc n)
+
+-- the door's answer that it stands for
+unfoldable pub answerOf : Checked → Answer
+answerOf (Good z) = Accepted
+answerOf (Bad n) = Refused n

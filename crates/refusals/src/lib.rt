@@ -8,7 +8,10 @@ pub mod phases;
 pub mod tables;
 pub mod triplet;
 
+use phonon::Answer;
 use phonon::Sizes;
+ghost use mathlib.Core.Path.{_≡_};
+ghost use Rattle.refusals.specs.Answers.{answerOf};
 
 // What the measures are found to be: within their limits, with the sizes that they fix, or beyond them.
 pub enum Measured {
@@ -21,4 +24,14 @@ pub enum Measured {
 pub enum Checked {
     Good(Sizes),
     Bad(u8),
+}
+
+// The door's answer that it stands for.
+pub fn answer_of(c: Checked) -> Answer
+    ensures { λ r. ⌜ r ≡ answerOf c ⌝ }
+{
+    match c {
+        Checked::Good(_) => Answer::Accepted,
+        Checked::Bad(n) => Answer::Refused(n),
+    }
 }
