@@ -1,4 +1,6 @@
 // interaction.rs: the doors of the strengths.
+pub mod list;
+
 use phonon::Answer;
 use phonon::Form;
 use phonon::Measures;
