@@ -8,19 +8,10 @@ use phonon::Settings;
 use phonon::Symmetry;
 use real_to_normal::triplet::work_triplet;
 use refusals::Checked;
+use refusals::answer_of;
 use refusals::triplet::check_triplet;
 ghost use mathlib.Core.Path.{_≡_};
 ghost use Rattle.phonon.specs.Doors.{StrengthsOutcome, tripletOutcome};
-ghost use Rattle.interaction.specs.Answers.{answerOf};
-
-fn answer_of(c: Checked) -> Answer
-    ensures { λ r. ⌜ r ≡ answerOf c ⌝ }
-{
-    match c {
-        Checked::Good(_) => Answer::Accepted,
-        Checked::Bad(n) => Answer::Refused(n),
-    }
-}
 
 // One triplet: document 01's first door.
 pub fn get_interaction_at_triplet(

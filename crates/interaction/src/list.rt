@@ -1,5 +1,4 @@
 // get_interaction of interaction.rs: each triplet of a list works its own part of the strengths.
-use crate::answer_of;
 use phonon::Answer;
 use phonon::Form;
 use phonon::Measures;
@@ -7,6 +6,7 @@ use phonon::Settings;
 use phonon::Symmetry;
 use real_to_normal::triplet::work_triplet;
 use refusals::Checked;
+use refusals::answer_of;
 use refusals::list::check_list;
 ghost use mathlib.Core.Path.{_≡_};
 ghost use Prim.Native.Nat.{_+_, _*_, _≤_};

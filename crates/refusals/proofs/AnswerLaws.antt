@@ -14,6 +14,11 @@ unfolding checkedOf
 passes zero z y e = refl
 passes (suc r) z y e = absurd (let u : _≡_ {A = ℕ} 0 1 = cc in omega arith)
 
+pub sizes-told : (r : ℕ) (z y : Sizes) → Good y ≡ checkedOf r z → y ≡ z
+unfolding checkedOf
+sizes-told zero z y e = cc
+sizes-told (suc r) z y e = absurd (let u : _≡_ {A = ℕ} 0 1 = cc in omega arith)
+
 -- of any door: leaves n is the outcome of a set whose refusal is n, and kept a that of the answer a with the buffers as found
 pub turned-back : {O : Type 0} (leaves : ℕ → O) (kept : Answer → O) → ((n : ℕ) → kept (answerFor (suc n)) ≡ leaves (suc n))
     → (r : ℕ) (z : Sizes) (a : Answer) (b : Checked) (n : ℕ) → b ≡ checkedOf r z → b ≡ Bad n → a ≡ answerOf b → kept a ≡ leaves r

@@ -15,10 +15,13 @@ use mir.ValLaws.{toZ-ofZ}
 use mir.Syntax.{w64}
 use lib.Ieee.{Float}
 use Rattle.phonon.specs.declared.Answer.{Answer}
-use Rattle.phonon.specs.Sets.{TripletSet, TotalsSet}
-use Rattle.phonon.specs.Doors.{numberOf, StrengthsOutcome, TotalsOutcome, tripletOutcome, totalsOutcome}
+use Rattle.phonon.specs.declared.Anchoring.{Anchoring}
+use Rattle.phonon.specs.declared.Form.{Form}
+use Rattle.phonon.specs.declared.Symmetry.{Symmetry}
+use Rattle.phonon.specs.Sets.{Tables, TripletSet, ListSet, TotalsSet, JoinedSet}
+use Rattle.phonon.specs.Doors.{numberOf, StrengthsOutcome, TotalsOutcome, JoinedOutcome, tripletOutcome, listOutcome, totalsOutcome, joinedOutcome}
 use Rattle.phonon.proofs.Accepted.{and-both}
-use Rattle.wirambolo_c.specs.Foreign.{known, tablesRead, Strengths, Totals, tripletAnswer, totalsAnswer}
+use Rattle.wirambolo_c.specs.Foreign.{known, tablesRead, Strengths, Totals, Joined, tripletAnswer, listAnswer, totalsAnswer, joinedAnswer}
 
 -- ---- arrays
 
@@ -52,6 +55,34 @@ grid-lengths a f y mesh matrix e =
     let p = and-both (choices && eqb (length mesh) 3) _ e in
     (eqb-true _ _ (and-both choices _ (p .0) .1), eqb-true _ _ (p .1))
 
+-- ---- sets: what was read of a call makes the set that the call names
+
+pub tables-same : (t : Tables) (a : Anchoring) (f : Form) (y : Symmetry) (mesh matrix : List ℤ)
+    → a ≡ t .settings .anchoring → f ≡ t .crystal .forces .form → y ≡ t .symmetry → mesh ≡ t .grid .mesh → matrix ≡ t .grid .matrix
+    → _≡_ {A = Tables}
+    (record {
+      measures = t .measures;
+      settings = record { anchoring = a; cutoff = t .settings .cutoff };
+      symmetry = y;
+      crystal = record {
+        vectors = t .crystal .vectors;
+        multiplicity = t .crystal .multiplicity;
+        masses = t .crystal .masses;
+        forces = record { form = f; p2s = t .crystal .forces .p2s; s2p = t .crystal .forces .s2p; shortest = t .crystal .forces .shortest; nonzero = t .crystal .forces .nonzero; constants = t .crystal .forces .constants };
+      };
+      grid = record { mesh = mesh; matrix = matrix; addresses = t .grid .addresses };
+      bands = t .bands;
+      phonons = t .phonons;
+    })
+    t
+tables-same t a f y mesh matrix p q r u v = rw (p, q, r, u, v) refl
+
+pub joined-same : (s : JoinedSet) (t : Tables) (triplet : List ℤ) (weight : ℤ) → t ≡ s .tables → triplet ≡ s .triplet → weight ≡ s .bath .weight
+    → _≡_ {A = JoinedSet}
+    (record { tables = t; triplet = triplet; flags = s .flags; bath = record { weight = weight; temperature = s .bath .temperature }; first = s .first; second = s .second; strengths = s .strengths; totals = s .totals; work = s .work })
+    s
+joined-same s t triplet weight p q r = rw (p, q, r) refl
+
 -- ---- answers
 
 pub triplet-unread : (b : Bool) (s : TripletSet) → b ≡ false
@@ -65,6 +96,17 @@ pub triplet-answered : (b : Bool) (s : TripletSet) {a : Answer} {v w : List Floa
 unfolding tripletAnswer
 triplet-answered b s e h p = rw (e, p) (ap (λ o. record { answer = numberOf (o .answer); strengths = o .strengths; work = o .work }) h)
 
+pub list-unread : (b : Bool) (s : ListSet) → b ≡ false
+    → _≡_ {A = Strengths} (record { answer = 255; strengths = s .strengths; work = s .work }) (listAnswer b s)
+unfolding listAnswer
+list-unread b s e = rw e refl
+
+pub list-answered : (b : Bool) (s : ListSet) {a : Answer} {v w : List Float} {n : ℕ} → b ≡ true
+    → _≡_ {A = StrengthsOutcome} (record { answer = a; strengths = v; work = w }) (listOutcome s) → n ≡ numberOf a
+    → _≡_ {A = Strengths} (record { answer = n; strengths = v; work = w }) (listAnswer b s)
+unfolding listAnswer
+list-answered b s e h p = rw (e, p) (ap (λ o. record { answer = numberOf (o .answer); strengths = o .strengths; work = o .work }) h)
+
 pub totals-unread : (b : Bool) (s : TotalsSet) → b ≡ false
     → _≡_ {A = Totals} (record { answer = 255; totals = s .totals }) (totalsAnswer b s)
 unfolding totalsAnswer
@@ -75,3 +117,15 @@ pub totals-answered : (b : Bool) (s : TotalsSet) {a : Answer} {v : List Float} {
     → _≡_ {A = Totals} (record { answer = n; totals = v }) (totalsAnswer b s)
 unfolding totalsAnswer
 totals-answered b s e h p = rw (e, p) (ap (λ o. record { answer = numberOf (o .answer); totals = o .totals }) h)
+
+pub joined-unread : (b : Bool) (s : JoinedSet) → b ≡ false
+    → _≡_ {A = Joined} (record { answer = 255; strengths = s .strengths; totals = s .totals; work = s .work }) (joinedAnswer b s)
+unfolding joinedAnswer
+joined-unread b s e = rw e refl
+
+-- t is the set that the door was handed
+pub joined-answered : (b : Bool) (s t : JoinedSet) {a : Answer} {v u w : List Float} {n : ℕ} → b ≡ true
+    → _≡_ {A = JoinedOutcome} (record { answer = a; strengths = v; totals = u; work = w }) (joinedOutcome t) → t ≡ s → n ≡ numberOf a
+    → _≡_ {A = Joined} (record { answer = n; strengths = v; totals = u; work = w }) (joinedAnswer b s)
+unfolding joinedAnswer
+joined-answered b s t e h k p = rw (e, p) (ap (λ o. record { answer = numberOf (o .answer); strengths = o .strengths; totals = o .totals; work = o .work }) (h ∙ ap joinedOutcome k))

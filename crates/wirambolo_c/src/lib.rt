@@ -14,7 +14,7 @@ ghost use lib.Dec.{eqb};
 ghost use lib.ListN.{length};
 ghost use Rattle.phonon.specs.Doors.{numberOf};
 ghost use Rattle.wirambolo_c.specs.Foreign as Foreign;
-ghost use Rattle.wirambolo_c.specs.Foreign.{Strengths, Totals};
+ghost use Rattle.wirambolo_c.specs.Foreign.{Strengths, Totals, Joined};
 
 // ---- choices, arrays and answers
 
@@ -169,6 +169,81 @@ pub extern "C" fn wirambolo_get_interaction_at_triplet(
     ))
 }
 
+// A list of triplets.
+#[no_mangle]
+pub extern "C" fn wirambolo_get_interaction(
+    atoms: usize,
+    supercell: usize,
+    first: usize,
+    grid: usize,
+    vectors_count: usize,
+    anchoring: u8,
+    cutoff: f64,
+    form: u8,
+    symmetry: u8,
+    mesh: &[i64],
+    matrix: &[i64],
+    list: usize,
+    triplets: &[i64],
+    addresses: &[i64],
+    vectors: &[f64],
+    multiplicity: &[i64],
+    p2s: &[i64],
+    s2p: &[i64],
+    masses: &[f64],
+    bands: &[i64],
+    frequencies: &[f64],
+    eigenvectors: &[f64],
+    shortest: &[u8],
+    nonzero: &[u8],
+    constants: &[f64],
+    flags: &[u8],
+    strengths: &mut [f64],
+    work: &mut [f64],
+) -> u8
+    ensures { λ r. ⌜ _≡_ {A = Strengths} (record { answer = r; strengths = now (strengths .exit); work = now (work .exit) }) (Foreign.listAnswer (Foreign.tablesRead anchoring form symmetry (now (mesh .entry)) (now (matrix .entry))) (record { tables = record { measures = record { atoms = atoms; supercell = supercell; first = first; grid = grid; vectors = «vectors_count» }; settings = record { anchoring = Foreign.anchoringOf anchoring; cutoff = cutoff }; symmetry = Foreign.symmetryOf symmetry; crystal = record { vectors = now (vectors .entry); multiplicity = now (multiplicity .entry); masses = now (masses .entry); forces = record { form = Foreign.formOf form; p2s = now (p2s .entry); s2p = now (s2p .entry); shortest = now (shortest .entry); nonzero = now (nonzero .entry); constants = now (constants .entry) } }; grid = record { mesh = now (mesh .entry); matrix = now (matrix .entry); addresses = now (addresses .entry) }; bands = now (bands .entry); phonons = record { frequencies = now (frequencies .entry); eigenvectors = now (eigenvectors .entry) } }; list = list; triplets = now (triplets .entry); flags = now (flags .entry); strengths = now (strengths .entry); work = now (work .entry) })) ⌝ }
+{
+    if !are_tables_read(anchoring, form, symmetry, mesh, matrix) {
+        return 255;
+    }
+    let m = Measures {
+        atoms: atoms,
+        supercell: supercell,
+        first: first,
+        grid: grid,
+        vectors: vectors_count,
+    };
+    let settings = Settings {
+        anchoring: anchoring_of(anchoring),
+        cutoff: cutoff,
+    };
+    number_of(interaction::list::get_interaction(
+        m,
+        settings,
+        form_of(form),
+        symmetry_of(symmetry),
+        three(mesh),
+        nine(matrix),
+        list,
+        triplets,
+        addresses,
+        vectors,
+        multiplicity,
+        p2s,
+        s2p,
+        masses,
+        bands,
+        frequencies,
+        eigenvectors,
+        shortest,
+        nonzero,
+        constants,
+        flags,
+        strengths,
+        work,
+    ))
+}
+
 // Totals alone.
 #[no_mangle]
 pub extern "C" fn wirambolo_imag_self_energy_at_triplet(
@@ -213,5 +288,91 @@ pub extern "C" fn wirambolo_imag_self_energy_at_triplet(
         first_weights,
         second_weights,
         totals,
+    ))
+}
+
+// One triplet and its totals joined.
+#[no_mangle]
+pub extern "C" fn wirambolo_joined_at_triplet(
+    atoms: usize,
+    supercell: usize,
+    first: usize,
+    grid: usize,
+    vectors_count: usize,
+    anchoring: u8,
+    cutoff: f64,
+    form: u8,
+    symmetry: u8,
+    mesh: &[i64],
+    matrix: &[i64],
+    triplet: &[i64],
+    addresses: &[i64],
+    vectors: &[f64],
+    multiplicity: &[i64],
+    p2s: &[i64],
+    s2p: &[i64],
+    masses: &[f64],
+    bands: &[i64],
+    frequencies: &[f64],
+    eigenvectors: &[f64],
+    shortest: &[u8],
+    nonzero: &[u8],
+    constants: &[f64],
+    flags: &[u8],
+    weight: i64,
+    temperature: f64,
+    first_weights: &[f64],
+    second_weights: &[f64],
+    strengths: &mut [f64],
+    totals: &mut [f64],
+    work: &mut [f64],
+) -> u8
+    ensures { λ r. ⌜ _≡_ {A = Joined} (record { answer = r; strengths = now (strengths .exit); totals = now (totals .exit); work = now (work .exit) }) (Foreign.joinedAnswer (Foreign.tablesRead anchoring form symmetry (now (mesh .entry)) (now (matrix .entry)) && eqb (length (now (triplet .entry))) 3) (record { tables = record { measures = record { atoms = atoms; supercell = supercell; first = first; grid = grid; vectors = «vectors_count» }; settings = record { anchoring = Foreign.anchoringOf anchoring; cutoff = cutoff }; symmetry = Foreign.symmetryOf symmetry; crystal = record { vectors = now (vectors .entry); multiplicity = now (multiplicity .entry); masses = now (masses .entry); forces = record { form = Foreign.formOf form; p2s = now (p2s .entry); s2p = now (s2p .entry); shortest = now (shortest .entry); nonzero = now (nonzero .entry); constants = now (constants .entry) } }; grid = record { mesh = now (mesh .entry); matrix = now (matrix .entry); addresses = now (addresses .entry) }; bands = now (bands .entry); phonons = record { frequencies = now (frequencies .entry); eigenvectors = now (eigenvectors .entry) } }; triplet = now (triplet .entry); flags = now (flags .entry); bath = record { weight = weight; temperature = temperature }; first = now («first_weights» .entry); second = now («second_weights» .entry); strengths = now (strengths .entry); totals = now (totals .entry); work = now (work .entry) })) ⌝ }
+{
+    if !(are_tables_read(anchoring, form, symmetry, mesh, matrix) & (triplet.len() == 3)) {
+        return 255;
+    }
+    let m = Measures {
+        atoms: atoms,
+        supercell: supercell,
+        first: first,
+        grid: grid,
+        vectors: vectors_count,
+    };
+    let settings = Settings {
+        anchoring: anchoring_of(anchoring),
+        cutoff: cutoff,
+    };
+    let bath = Bath {
+        weight: weight,
+        temperature: temperature,
+    };
+    number_of(joined::joined_at_triplet(
+        m,
+        settings,
+        form_of(form),
+        symmetry_of(symmetry),
+        bath,
+        three(mesh),
+        nine(matrix),
+        three(triplet),
+        addresses,
+        vectors,
+        multiplicity,
+        p2s,
+        s2p,
+        masses,
+        bands,
+        frequencies,
+        eigenvectors,
+        shortest,
+        nonzero,
+        constants,
+        flags,
+        first_weights,
+        second_weights,
+        strengths,
+        totals,
+        work,
     ))
 }

@@ -5,7 +5,8 @@ use borrow.Author.Needs.{needs}
 use Rattle.phonon.specs.Sets.{TripletSet}
 use Rattle.phonon.specs.Limits.{sizesOf}
 use Rattle.phonon.specs.Refusal.{tripletRefusal}
-use Rattle.interaction.proofs.DoorLaws.{passes, refused, accepted}
+use Rattle.refusals.proofs.AnswerLaws.{passes}
+use Rattle.interaction.proofs.DoorLaws.{refused, accepted}
 use Rattle.interaction.proofs.get_interaction_at_triplet.Statement.{statement}
 use Rattle.interaction.proofs.get_interaction_at_triplet.Tie as tie
 

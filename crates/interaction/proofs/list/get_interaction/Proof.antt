@@ -6,7 +6,8 @@ use Rattle.phonon.specs.Limits.{sizesOf}
 use Rattle.phonon.specs.Refusal.{listRefusal}
 use Rattle.refusals.specs.declared.Checked.the-variants.{Good}
 use Rattle.refusals.specs.Answers.{checkedOf}
-use Rattle.interaction.proofs.DoorLaws.{passes, sizes-told, list-refused, list-accepted}
+use Rattle.refusals.proofs.AnswerLaws.{passes, sizes-told}
+use Rattle.interaction.proofs.DoorLaws.{list-refused, list-accepted}
 use Rattle.interaction.proofs.list.get_interaction.Statement.{statement}
 use Rattle.interaction.proofs.list.get_interaction.Tie as tie
 

@@ -1,0 +1,120 @@
+-- A call that cannot be read is answered with 255 and left as it is; any other is the door's.
+use mathlib.Core.Path.{_≡_, sym, _∙_}
+use mathlib.Core.Bool.{true, false, _&&_}
+use lib.Dec.{eqb}
+use lib.ListN.{length}
+use borrow.Author.Needs.{needs}
+use borrow.Author.Tests.{eqb-true, not-true, not-false}
+use mir.ValLaws.{toZ-ofZ}
+use mir.Syntax.{w64}
+use Rattle.phonon.specs.Sets.{JoinedSet}
+use Rattle.phonon.proofs.Accepted.{and-both}
+use Rattle.wirambolo_c.specs.Foreign.{tablesRead, anchoringOf, formOf, symmetryOf}
+use Rattle.wirambolo_c.proofs.Laws.{grid-lengths, tables-same, joined-same, joined-unread, joined-answered}
+use Rattle.wirambolo_c.proofs.wirambolo_joined_at_triplet.Statement.{statement}
+use Rattle.wirambolo_c.proofs.wirambolo_joined_at_triplet.Tie as tie
+
+-- the set that the contract speaks of
+abbrev handed : tie.Start → JoinedSet
+handed s =
+    record {
+      tables = record {
+        measures = record { atoms = s .args .atoms; supercell = s .args .supercell; first = s .args .first; grid = s .args .grid; vectors = s .args .vectors-count };
+        settings = record { anchoring = anchoringOf (s .args .anchoring); cutoff = s .args .cutoff };
+        symmetry = symmetryOf (s .args .symmetry);
+        crystal = record {
+          vectors = s .args .vectors .now;
+          multiplicity = s .args .multiplicity .now;
+          masses = s .args .masses .now;
+          forces = record { form = formOf (s .args .form); p2s = s .args .p2s .now; s2p = s .args .s2p .now; shortest = s .args .shortest .now; nonzero = s .args .nonzero .now; constants = s .args .constants .now };
+        };
+        grid = record { mesh = s .args .mesh .now; matrix = s .args .matrix .now; addresses = s .args .addresses .now };
+        bands = s .args .bands .now;
+        phonons = record { frequencies = s .args .frequencies .now; eigenvectors = s .args .eigenvectors .now };
+      };
+      triplet = s .args .triplet .now;
+      flags = s .args .flags .now;
+      bath = record { weight = s .args .weight; temperature = s .args .temperature };
+      first = s .args .first-weights .now;
+      second = s .args .second-weights .now;
+      strengths = s .args .strengths .now;
+      totals = s .args .totals .now;
+      work = s .args .work .now;
+    }
+
+are-tables-read-requires : tie.Need-are-tables-read-requires
+are-tables-read-requires c κs = search needs
+
+returns : tie.Need-returns
+returns c =
+    joined-unread _ (handed (c .before .before .before .before .before .before .before .before .before .before .before .before .before .before .before)) (rw (sym (c .before .are-tables-read .ensures)) (not-true _ (c .if1 .taken)))
+
+-- the tests that the call has passed: of the tables, and of the triplet's length
+passed : (c : tie.After-anchoring-of) → (c .before .before .are-tables-read .result ≡ true) × (eqb (length (c .before .before .before .before .before .before .before .before .before .before .before .before .before .before .before .before .args .triplet .now)) 3 ≡ true)
+passed c = and-both (c .before .before .are-tables-read .result) _ (not-false _ (c .before .if1 .left))
+
+-- the lengths of the mesh and of the q matrix
+lengths : (c : tie.After-anchoring-of) → (length (c .before .before .before .before .before .before .before .before .before .before .before .before .before .before .before .before .args .mesh .now) ≡ 3) × (length (c .before .before .before .before .before .before .before .before .before .before .before .before .before .before .before .before .args .matrix .now) ≡ 9)
+lengths c = grid-lengths _ _ _ _ _ (sym (c .before .before .are-tables-read .ensures) ∙ passed c .0)
+
+anchoring-of-requires : tie.Need-anchoring-of-requires
+anchoring-of-requires c κs = search needs
+
+form-of-requires : tie.Need-form-of-requires
+form-of-requires c κs = search needs
+
+symmetry-of-requires : tie.Need-symmetry-of-requires
+symmetry-of-requires c κs = search needs
+
+three-requires : tie.Need-three-requires
+three-requires c κs = lengths (c .before .before) .0
+
+nine-requires : tie.Need-nine-requires
+nine-requires c κs = lengths (c .before .before .before) .1
+
+three-requires-2 : tie.Need-three-requires-2
+three-requires-2 c κs = eqb-true _ _ (passed (c .before .before .before .before) .1)
+
+joined-at-triplet-requires : tie.Need-joined-at-triplet-requires
+joined-at-triplet-requires c κs = search needs
+
+number-of-requires : tie.Need-number-of-requires
+number-of-requires c κs = search needs
+
+same-length : tie.Need-same-length
+same-length c = search needs
+
+same-length-2 : tie.Need-same-length-2
+same-length-2 c = search needs
+
+same-length-3 : tie.Need-same-length-3
+same-length-3 c = search needs
+
+returns-2 : tie.Need-returns-2
+returns-2 c =
+    let s = c .before .before .before .before .before .before .before .before .before .before .before .before .before .before .before .before .before .before .before .before .before .before .before .before .before .before .before .before .before .before .before .before in
+    joined-answered _ (handed s) _ (rw (sym (c .before .before .before .before .before .before .before .before .before .before .before .before .before .before .before .before .before .before .are-tables-read .ensures)) (not-false _ (c .before .before .before .before .before .before .before .before .before .before .before .before .before .before .before .before .before .if1 .left)))
+    (c .before .before .before .before .before .before .before .joined-at-triplet .ensures)
+    (joined-same (handed s) _ _ _
+    (tables-same (handed s .tables) _ _ _ _ _ (c .before .before .before .before .before .before .before .before .before .before .before .before .before .before .before .before .anchoring-of .ensures) (c .before .before .before .before .before .before .before .before .before .before .before .before .before .before .before .form-of .ensures) (c .before .before .before .before .before .before .before .before .before .before .before .before .before .before .symmetry-of .ensures) (c .before .before .before .before .before .before .before .before .before .before .before .before .before .three .ensures) (c .before .before .before .before .before .before .before .before .before .before .before .before .nine .ensures))
+    (c .before .before .before .before .before .before .before .before .before .before .before .three2 .ensures) (toZ-ofZ w64 _ (s .fits .weight)))
+    (c .number-of .ensures)
+
+pub wirambolo-joined-at-triplet-spec : {M : Type 1} → statement M
+wirambolo-joined-at-triplet-spec =
+    tie.close
+    (tie.spec
+    are-tables-read-requires
+    returns
+    anchoring-of-requires
+    form-of-requires
+    symmetry-of-requires
+    three-requires
+    nine-requires
+    three-requires-2
+    joined-at-triplet-requires
+    number-of-requires
+    same-length
+    same-length-2
+    same-length-3
+    returns-2)
