@@ -51,12 +51,13 @@ pub record Up (y : Float) : Type 0 where
   pub above : T (lt (fin true 1 (pos 0)) y)
   pub under : T (lt y (fin false 1 (pos 64)))
   pub is : floor y ≡ pos (toUnsigned 64 y)
+  pub small : toUnsigned 64 y ≤ limit
 
 pub floor-up : (y : Float) → Within limit y → le f0 y ≡ true → Up y
 unfolding floor le lt eq ofBits toUnsigned
 floor-up nan w l = absurd w
 floor-up (inf s) w l = absurd w
-floor-up (fin false m e) w l = let c = cut m e w in record { above = c .above; under = c .under; is = ap pos (sym (c .is)) }
+floor-up (fin false m e) w l = let c = cut m e w in record { above = c .above; under = c .under; is = ap pos (sym (c .is)); small = omega (arith, c .is, c .small) }
 floor-up (fin true m e) w l =
     let z : m * up e ≡ 0 = negative-zero m e (subst T (sym l) tt) in
     let p : 0 < down e = down-pos e in
@@ -65,6 +66,7 @@ floor-up (fin true m e) w l =
       above = lt→ltb (m * up e * 1) (1 * 1 * down e) (omega arith);
       under = lt→ltb 0 (m * up e * 1 + 1 * 2 ^ 64 * down e) (omega arith);
       is = ap (λ (n : ℕ). negℤ (pos n)) q;
+      small = lit≤ tt;
     }
 
 -- ---- below 0
@@ -174,3 +176,7 @@ unfolding floor
 floor-greatest false m e =
     (div-mul-le-self (m * up e) (down e), λ z. lt-irrefl 0 (omega (arith, z, suc-mul (m * up e / down e) (down e), add-mul (m * up e / down e) 1 (down e), one-mul (down e), div-lt-iff-lt-mul {k = down e} {x = m * up e} {y = m * up e / down e + 1} (down-pos e) .0 (omega arith))))
 floor-greatest true m e = floor-negative m e _ refl
+
+pub quadrant-small : (z : ℤ) → quadrant z < 4
+quadrant-small (pos n) = omega arith
+quadrant-small (negsuc n) = omega arith

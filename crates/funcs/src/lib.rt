@@ -2,12 +2,11 @@
 use phonon::SinCos;
 ghost use mathlib.Core.Path.{_≡_};
 ghost use mathlib.Core.Bool.{false};
-ghost use mathlib.Core.List.{foldl};
-ghost use Prim.Native.Nat.{_≤_};
+ghost use mathlib.Core.List.{[], _∷_};
+ghost use Prim.Native.Nat.{_<_, _≤_};
 ghost use lib.IntN.{pos};
-ghost use lib.ListN.{length};
 ghost use lib.Ieee.{fin};
-ghost use Rattle.phonon.specs.Number.{_⊖_, _⊗_, _⊘_, f1, float};
+ghost use Rattle.phonon.specs.Number.{_⊗_, at, float};
 ghost use Rattle.phonon.specs.Exp as Exp;
 ghost use Rattle.phonon.specs.Trig as Trig;
 ghost use Rattle.phonon.specs.Funcs.{boseEinstein};
@@ -99,18 +98,20 @@ const HALF_PI_MIDDLE: f64 = 6.077100506303966e-11;
 // 3BA3198A2E037073
 const HALF_PI_LOW: f64 = 2.0222662487959506e-21;
 
-// p = 1, then p = 1 - p * (z / d) for each divisor d in turn.
-fn alternating_series(z: f64, divisors: &[f64; 9]) -> f64
-    requires { ⌜ length (now divisors) ≡ 9 ⌝ }
-    ensures { λ p. ⌜ p ≡ foldl (λ p d. f1 ⊖ p ⊗ (z ⊘ d)) f1 (now (divisors .entry)) ⌝ }
+// Both series of z, the sine's and then the cosine's: p = 1, then p = 1 - p * (z / d) for each divisor d in turn. Side by side
+// they take one vector division a term.
+fn both_series(z: f64) -> [f64; 2]
+    ensures { λ r. ⌜ r ≡ Trig.sineSeries z ∷ Trig.cosineSeries z ∷ [] ⌝ }
 {
-    let mut p = 1.0;
+    let mut s = 1.0;
+    let mut c = 1.0;
     let mut i = 0usize;
     while i < 9 {
-        p = 1.0 - p * (z / divisors[i]);
+        s = 1.0 - s * (z / SINE_DIVISORS[i]);
+        c = 1.0 - c * (z / COSINE_DIVISORS[i]);
         i += 1;
     }
-    p
+    [s, c]
 }
 
 // The greatest whole number not above y, as a float, and that number mod 4.
@@ -126,32 +127,33 @@ fn floor_parts(y: f64) -> Floored
     if y >= 0.0 {
         let k = std::num::truncating_f64_to_u64(y);
         return Floored {
-            whole: std::num::nearest_u64_to_f64(k),
+            whole: (k as u32) as f64,
             quadrant: k % 4,
         };
     }
     let m = -y;
     let t = std::num::truncating_f64_to_u64(m);
-    let k = if std::num::nearest_u64_to_f64(t) < m {
-        t + 1
-    } else {
-        t
-    };
+    let k = if ((t as u32) as f64) < m { t + 1 } else { t };
     Floored {
-        whole: -std::num::nearest_u64_to_f64(k),
+        whole: -((k as u32) as f64),
         quadrant: (4 - k % 4) % 4,
     }
 }
 
-// The sine and the cosine after q quarter turns, from those before.
-fn turned(q: u64, s: f64, c: f64) -> SinCos
-    ensures { λ r. ⌜ r ≡ Trig.turned q s c ⌝ }
+// The sine and the cosine of r and q quarter turns more, from r and its two series. Read by the parity of q, both series stay in
+// memory and are worked as one vector.
+fn turned(q: u64, r: f64, p: [f64; 2]) -> SinCos
+    requires { ⌜ q < 4 ⌝ }
+    ensures { λ t. ⌜ t ≡ Trig.turned q (r ⊗ at p 0) (at p 1) ⌝ }
 {
+    let odd = (q % 2) as usize;
+    let s = p[odd];
+    let c = p[1 - odd];
     match q {
-        0 => SinCos { sin: s, cos: c },
-        1 => SinCos { sin: c, cos: -s },
-        2 => SinCos { sin: -s, cos: -c },
-        _ => SinCos { sin: -c, cos: s },
+        0 => SinCos { sin: r * s, cos: c },
+        1 => SinCos { sin: s, cos: -(r * c) },
+        2 => SinCos { sin: -(r * s), cos: -c },
+        _ => SinCos { sin: -s, cos: r * c },
     }
 }
 
@@ -163,10 +165,7 @@ pub fn sin_cos(x: f64) -> SinCos
         let f = floor_parts(x * TWO_OVER_PI + 0.5);
         let k = f.whole;
         let r = ((x - k * HALF_PI_HIGH) - k * HALF_PI_MIDDLE) - k * HALF_PI_LOW;
-        let z = r * r;
-        let s = r * alternating_series(z, &SINE_DIVISORS);
-        let c = alternating_series(z, &COSINE_DIVISORS);
-        return turned(f.quadrant, s, c);
+        return turned(f.quadrant, r, both_series(r * r));
     }
     SinCos {
         sin: 0.0 / 0.0,

@@ -8,6 +8,9 @@ use oracle::sets::*;
 pub enum Timed {
     /// Strengths of one triplet.
     Triplet,
+    /// Strengths of a list of triplets; times are of one of them. What a set is tested for beside the phases is tested once for
+    /// all, so that this comes near to the time of the work alone.
+    List,
     /// Totals alone, beside the Rust function that is handed the positions of the unflagged slots.
     Totals,
     /// Totals alone, beside the Rust driver that finds these positions from the flags.
@@ -17,8 +20,9 @@ pub enum Timed {
 }
 
 impl Timed {
-    pub const ALL: [Timed; 4] = [
+    pub const ALL: [Timed; 5] = [
         Timed::Triplet,
+        Timed::List,
         Timed::Totals,
         Timed::TotalsFromFlags,
         Timed::Joined,
@@ -27,6 +31,7 @@ impl Timed {
     pub fn name(self) -> &'static str {
         match self {
             Timed::Triplet => "triplet",
+            Timed::List => "list",
             Timed::Totals => "totals",
             Timed::TotalsFromFlags => "totals from flags",
             Timed::Joined => "joined",
@@ -44,11 +49,24 @@ impl Timed {
     fn door(self) -> Door {
         match self {
             Timed::Triplet => Door::Triplet,
+            Timed::List => Door::List,
             Timed::Totals | Timed::TotalsFromFlags => Door::Totals,
             Timed::Joined => Door::Joined,
         }
     }
 }
+
+/// The triplets of a list.
+const LIST: [[i64; 3]; 8] = [
+    [0, 1, 2],
+    [1, 2, 0],
+    [2, 0, 1],
+    [0, 2, 1],
+    [1, 0, 2],
+    [2, 1, 0],
+    [0, 0, 1],
+    [1, 1, 2],
+];
 
 #[derive(Clone, Copy, Debug, PartialEq)]
 pub struct Case {
@@ -99,6 +117,14 @@ impl Case {
             "half flagged"
         } else {
             "no flags"
+        }
+    }
+
+    /// How many triplets a call works.
+    pub fn triplets(&self) -> usize {
+        match self.timed {
+            Timed::List => LIST.len(),
+            _ => 1,
         }
     }
 
@@ -156,7 +182,7 @@ impl Case {
                 .map(|_| u8::from(random.chance(4)))
                 .collect(),
             nonzero: vec![1; l.nonzero as usize],
-            flags: (0..l.slots)
+            flags: (0..self.triplets() as u128 * l.slots)
                 .map(|_| u8::from(self.half_flagged && random.chance(2)))
                 .collect(),
             force_constants,
@@ -166,13 +192,13 @@ impl Case {
             door: self.timed.door(),
             kind: Kind::Usual,
             planted: vec![],
-            list: 1,
-            triplets: vec![],
+            list: LIST.len() as u64,
+            triplets: LIST.concat(),
             weighting: Weighting::PerSlot,
             read_strengths: (0..slots).map(|_| random.part()).collect(),
             foreign: None,
             before: Buffers {
-                strengths: vec![0.0; slots],
+                strengths: vec![0.0; self.triplets() * slots],
                 totals: vec![0.0; m.first as usize],
                 work: vec![0.0; work_size(&m) as usize],
             },

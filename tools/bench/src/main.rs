@@ -1,4 +1,4 @@
-//! Usage: bench [--rounds N] [--out FILE] [--svg FILE] [triplet | totals | joined ...]
+//! Usage: bench [--rounds N] [--out FILE] [--svg FILE] [triplet | list | totals | joined ...]
 
 use bench::case::{Case, Timed};
 use bench::measure::measure;
@@ -7,7 +7,7 @@ use differential::doors::Doors;
 use std::process::ExitCode;
 
 const USAGE: &str =
-    "usage: bench [--rounds N] [--out FILE] [--svg FILE] [triplet | totals | joined ...]";
+    "usage: bench [--rounds N] [--out FILE] [--svg FILE] [triplet | list | totals | joined ...]";
 
 struct Wanted {
     rounds: u32,

@@ -35,7 +35,7 @@ fn now() -> Duration {
     Duration::new(time.seconds as u64, time.nanoseconds as u32)
 }
 
-/// Times of one call in microseconds.
+/// Times of one call, or of one triplet of a list, in microseconds.
 #[derive(Clone, Copy, Debug)]
 pub struct Times {
     pub rattle: f64,
@@ -70,11 +70,12 @@ fn check(case: &Case, call: &Call, doors: &dyn Doors, rust: &mut RustSide) -> Re
     if answer != 0 {
         return Err(format!("{case:?}: answered {answer}"));
     }
-    let strengths = matches!(case.timed, Timed::Triplet | Timed::Joined);
+    let strengths = matches!(case.timed, Timed::Triplet | Timed::List | Timed::Joined);
     if strengths && !same(&buffers.strengths, &rust.strengths) {
         return Err(format!("{case:?}: strengths differ"));
     }
-    if case.timed != Timed::Triplet && !same(&buffers.totals, &rust.totals) {
+    let totals = !matches!(case.timed, Timed::Triplet | Timed::List);
+    if totals && !same(&buffers.totals, &rust.totals) {
         return Err(format!("{case:?}: totals differ"));
     }
     Ok(())
@@ -119,9 +120,10 @@ pub fn measure(case: &Case, doors: &dyn Doors, rounds: u32) -> Result<Times, Str
         rattle: f64::INFINITY,
         rust: f64::INFINITY,
     };
+    let triplets = case.triplets() as f64;
     for _ in 0..rounds.max(1) {
-        let rattle = micros(batch(calls.0, &mut rattle_work), calls.0);
-        let rust = micros(batch(calls.1, &mut rust_work), calls.1);
+        let rattle = micros(batch(calls.0, &mut rattle_work), calls.0) / triplets;
+        let rust = micros(batch(calls.1, &mut rust_work), calls.1) / triplets;
         least.rattle = least.rattle.min(rattle);
         least.rust = least.rust.min(rust);
     }

@@ -56,24 +56,33 @@ impl<'a> RustSide<'a> {
             strengths: call.before.strengths.clone(),
             totals: call.before.totals.clone(),
         };
-        side.triplet();
+        side.triplet(call.set.triplet, 0);
         side
     }
 
     pub fn work(&mut self, timed: Timed) {
         match timed {
-            Timed::Triplet => self.triplet(),
+            Timed::Triplet => self.triplet(self.call.set.triplet, 0),
+            Timed::List => {
+                for (place, triplet) in rows(&self.call.triplets).into_iter().enumerate() {
+                    self.triplet(triplet, place);
+                }
+            }
             Timed::Totals => self.totals(false),
             Timed::TotalsFromFlags => self.totals_from_flags(),
             Timed::Joined => {
-                self.triplet();
+                self.triplet(self.call.set.triplet, 0);
                 self.totals(true);
             }
         }
     }
 
-    fn triplet(&mut self) {
+    /// One triplet, into its own part of the strengths.
+    fn triplet(&mut self, triplet: [i64; 3], place: usize) {
         let set = &self.call.set.strengths;
+        let bands = 3 * set.measures.atoms as usize;
+        let slots = set.measures.first as usize * bands * bands;
+        let part = place * slots..(place + 1) * slots;
         let atom_triplets = AtomTriplets {
             svecs: &self.vectors,
             num_satom: set.measures.supercell as usize,
@@ -86,13 +95,13 @@ impl<'a> RustSide<'a> {
             nonzero_indices: &self.nonzero,
         };
         get_interaction_at_triplet(
-            &mut self.strengths,
-            &self.flags,
+            &mut self.strengths[part.clone()],
+            &self.flags[part],
             set.measures.first as usize,
-            3 * set.measures.atoms as usize,
+            bands,
             &set.frequencies,
             &self.eigenvectors,
-            self.call.set.triplet,
+            triplet,
             &self.addresses,
             set.mesh,
             self.q_matrix,

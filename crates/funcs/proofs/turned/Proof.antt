@@ -1,30 +1,41 @@
 -- `funcs::turned` meets its contract, case by case. Assumes nothing.
 use mathlib.Core.Path.{_≡_, refl}
-use Prim.Native.Nat.{ℕ, zero, suc}
-use lib.Ieee.{Float, neg}
-use Rattle.phonon.specs.declared.SinCos.{SinCos}
-use Rattle.phonon.specs.Trig as Trig
+use native.Mathlib.Omega.{arith}
+use borrow.Author.Needs.{needs}
 use Rattle.funcs.proofs.turned.Statement.{statement}
 use Rattle.funcs.proofs.turned.Tie as tie
 
+mul-s : tie.Need-mul-s
+mul-s c = search needs
+
+array-read-s : tie.Need-array-read-s
+array-read-s c = search needs
+
+sub-c : tie.Need-sub-c
+sub-c c = search needs
+
+mul-c : tie.Need-mul-c
+mul-c c = search needs
+
+array-read-c : tie.Need-array-read-c
+array-read-c c = search needs
+
 returns : tie.Need-returns
-returns c = rw (c .match .keys1)
+returns c = rw (c .match .keys1) refl
 
 returns-2 : tie.Need-returns-2
-returns-2 c = rw (c .match .keys2)
+returns-2 c = rw (c .match .keys2) refl
 
 returns-3 : tie.Need-returns-3
-returns-3 c = rw (c .match .keys3)
-
--- three quarter turns, the definition's last case
-last : (q : ℕ) (s c : Float) → (q ≡ 0 → ⊥) → (q ≡ 1 → ⊥) → (q ≡ 2 → ⊥) → _≡_ {A = SinCos} (record { sin = neg c; cos = s }) (Trig.turned q s c)
-last zero s c x y z = absurd (x refl)
-last (suc zero) s c x y z = absurd (y refl)
-last (suc (suc zero)) s c x y z = absurd (z refl)
-last (suc (suc (suc q))) s c x y z = refl
+returns-3 c = rw (c .match .keys3) refl
 
 returns-4 : tie.Need-returns-4
-returns-4 c = last (c .before .args .q) (c .before .args .s) (c .before .args .c) (c .match .rest .0 .0 .1) (c .match .rest .0 .1) (c .match .rest .1)
+returns-4 c =
+    let m = c .match .rest in
+    let e : c .before .args .q ≡ 3 = omega (arith, c .before .pre, m .0 .0 .1, m .0 .1, m .1) in
+    rw e refl
 
 pub turned-spec : {M : Type 1} → statement M
-turned-spec = tie.close (tie.spec returns returns-2 returns-3 returns-4)
+turned-spec =
+    tie.close
+    (tie.spec mul-s array-read-s sub-c mul-c array-read-c returns returns-2 returns-3 returns-4)
