@@ -151,9 +151,18 @@ fn turned(q: u64, r: f64, p: [f64; 2]) -> SinCos
     let c = p[1 - odd];
     match q {
         0 => SinCos { sin: r * s, cos: c },
-        1 => SinCos { sin: s, cos: -(r * c) },
-        2 => SinCos { sin: -(r * s), cos: -c },
-        _ => SinCos { sin: -s, cos: r * c },
+        1 => SinCos {
+            sin: s,
+            cos: -(r * c),
+        },
+        2 => SinCos {
+            sin: -(r * s),
+            cos: -c,
+        },
+        _ => SinCos {
+            sin: -s,
+            cos: r * c,
+        },
     }
 }
 
