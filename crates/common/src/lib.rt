@@ -3,11 +3,32 @@ use phonon::Complex;
 ghost use mathlib.Core.Path.{_≡_};
 ghost use mathlib.Core.Bool.{false};
 ghost use Prim.Native.Nat.{_*_, _^_, _<_, _≤_};
+ghost use lib.IntN.{pos};
 ghost use lib.Ieee.Exact.{HasValue};
-ghost use Rattle.phonon.specs.Number.{bits};
+ghost use Rattle.phonon.specs.Number.{bits, float};
 ghost use Rattle.phonon.specs.Common.{cadd, cmul, scale, isZero};
 ghost use Rattle.phonon.specs.Root as Root;
 ghost use Rattle.common.specs.Rounded.{Rounded};
+
+// The float nearest to n. Where every whole number is a float, the machine converts it by itself.
+pub fn float_of(n: i64) -> f64
+    ensures { λ r. ⌜ r ≡ float n ⌝ }
+{
+    if (-9007199254740992 <= n) & (n <= 9007199254740992) {
+        return n as f64;
+    }
+    std::num::nearest_i64_to_f64(n)
+}
+
+// The same of a count.
+pub fn float_of_count(n: usize) -> f64
+    ensures { λ r. ⌜ r ≡ float (pos n) ⌝ }
+{
+    if n <= 0xffff_ffff {
+        return (n as u32) as f64;
+    }
+    std::num::nearest_u64_to_f64(n as u64)
+}
 
 // The sum of two complex numbers.
 pub fn cmplx_add(a: Complex, b: Complex) -> Complex

@@ -2,6 +2,8 @@
 use crate::entries::index_at;
 use common::cmplx_add;
 use common::cmplx_scale;
+use common::float_of;
+use common::float_of_count;
 use funcs::sin_cos;
 use phonon::Complex;
 use planes::put_split;
@@ -21,16 +23,14 @@ const PI: f64 = 3.141592653589793;
 fn address_over(address: i64, mesh: i64) -> f64
     ensures { λ r. ⌜ r ≡ float address ⊘ float mesh ⌝ }
 {
-    std::num::nearest_i64_to_f64(address) / std::num::nearest_i64_to_f64(mesh)
+    float_of(address) / float_of(mesh)
 }
 
 // One component of q: a row of the q matrix times x, y, z.
 fn q_entry(a: i64, b: i64, c: i64, x: f64, y: f64, z: f64) -> f64
     ensures { λ r. ⌜ r ≡ float a ⊗ x ⊕ float b ⊗ y ⊕ float c ⊗ z ⌝ }
 {
-    std::num::nearest_i64_to_f64(a) * x
-        + std::num::nearest_i64_to_f64(b) * y
-        + std::num::nearest_i64_to_f64(c) * z
+    float_of(a) * x + float_of(b) * y + float_of(c) * z
 }
 
 // The q of grid point g: the q matrix times address over mesh.
@@ -76,7 +76,7 @@ pub fn get_phase_factor(q: &[f64; 3], vectors: &[f64], count: usize, start: usiz
     for i in 0..count {
         sum = cmplx_add(sum, cis(phase(q, vectors, start + i)));
     }
-    cmplx_scale(sum, 1.0 / std::num::nearest_u64_to_f64(count as u64))
+    cmplx_scale(sum, 1.0 / float_of_count(count))
 }
 
 // The phase factors of atom i and each supercell atom, as ns numbers in planes from `off` on.

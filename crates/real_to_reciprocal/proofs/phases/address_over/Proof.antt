@@ -6,17 +6,17 @@ use borrow.Author.Needs.{needs}
 use Rattle.real_to_reciprocal.proofs.phases.address_over.Statement.{statement}
 use Rattle.real_to_reciprocal.proofs.phases.address_over.Tie as tie
 
-nearest-i64-to-f64-requires : tie.Need-nearest-i64-to-f64-requires
-nearest-i64-to-f64-requires c κs = search needs
+float-of-requires : tie.Need-float-of-requires
+float-of-requires c κs = search needs
 
-nearest-i64-to-f64-requires-2 : tie.Need-nearest-i64-to-f64-requires-2
-nearest-i64-to-f64-requires-2 c κs = search needs
+float-of-requires-2 : tie.Need-float-of-requires-2
+float-of-requires-2 c κs = search needs
 
 returns : tie.Need-returns
 returns c =
     let start = c .before .before in
-    quotient-of (c .before .nearest-i64-to-f64 .ensures) (c .nearest-i64-to-f642 .ensures) (toZ-ofZ w64 _ (start .fits .address)) (toZ-ofZ w64 _ (start .fits .mesh))
+    quotient-of (c .before .float-of .ensures) (c .float-of2 .ensures) (toZ-ofZ w64 _ (start .fits .address)) (toZ-ofZ w64 _ (start .fits .mesh))
 
 pub address-over-spec : {M : Type 1} → statement M
 address-over-spec =
-    tie.close (tie.spec nearest-i64-to-f64-requires nearest-i64-to-f64-requires-2 returns)
+    tie.close (tie.spec float-of-requires float-of-requires-2 returns)

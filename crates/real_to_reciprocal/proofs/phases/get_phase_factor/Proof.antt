@@ -39,8 +39,8 @@ loop-again c =
     let head = c .before .before .before .before in
     (omega arith, sum-turn _ _ _ (head .loop .i) (head .loop .inv .1) (c .before .before .phase .ensures) (c .before .cis .ensures) (c .cmplx-add .ensures))
 
-nearest-u64-to-f64-requires : tie.Need-nearest-u64-to-f64-requires Inv-loop μ-loop
-nearest-u64-to-f64-requires c κs = search needs
+float-of-count-requires : tie.Need-float-of-count-requires Inv-loop μ-loop
+float-of-count-requires c κs = search needs
 
 cmplx-scale-requires : tie.Need-cmplx-scale-requires Inv-loop μ-loop
 cmplx-scale-requires c κs = search needs
@@ -50,7 +50,7 @@ returns c =
     let head = c .before .before .before in
     let start = c .before .before .before .before .before in
     let e : head .loop .i ≡ start .args .count = omega arith in
-    mean-of _ _ _ (start .args .count) (rw e at (head .loop .inv .1)) (c .before .nearest-u64-to-f64 .ensures) (c .cmplx-scale .ensures)
+    mean-of _ _ _ (start .args .count) (rw e at (head .loop .inv .1)) (c .before .float-of-count .ensures) (c .cmplx-scale .ensures)
 
 pub get-phase-factor-spec : {M : Type 1} → statement M
 get-phase-factor-spec =
@@ -66,6 +66,6 @@ get-phase-factor-spec =
     add-i
     loop-less
     loop-again
-    nearest-u64-to-f64-requires
+    float-of-count-requires
     cmplx-scale-requires
     returns)
