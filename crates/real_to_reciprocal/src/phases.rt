@@ -12,6 +12,7 @@ ghost use Prim.Native.Nat.{_+_, _*_, _<_, _≤_};
 ghost use lib.IntN.{pos};
 ghost use lib.ListN.{length};
 ghost use Rattle.phonon.specs.Number.{_⊕_, _⊗_, _⊘_, float, index, int};
+ghost use Rattle.phonon.specs.declared.Complex.{Complex};
 ghost use Rattle.phonon.specs.RealToReciprocal as Def;
 ghost use Rattle.planes.specs.Split.{WroteSplit};
 ghost use Rattle.real_to_reciprocal.specs.Shape.{Anchored, Ranged};
@@ -56,15 +57,30 @@ pub fn phase(q: &[f64; 3], vectors: &[f64], v: usize) -> f64
     (q[0] * vectors[3 * v] + q[1] * vectors[3 * v + 1] + q[2] * vectors[3 * v + 2]) * 2.0 * PI
 }
 
-// The cosine and the sine of x, as a complex number.
-fn cis(x: f64) -> Complex
-    ensures { λ r. ⌜ r ≡ Def.cis x ⌝ }
+// A phase between the two parts of its factor. They are stored one by one; neighbours would be read at once, which has to
+// wait for both stores.
+struct Turn {
+    re: f64,
+    phase: f64,
+    im: f64,
+}
+
+// The cosine and the sine of x.
+fn cis(x: f64) -> Turn
+    ensures { λ r. ⌜ _≡_ {A = Complex} (record { re = r .re; im = r .im }) (Def.cis x) ⌝ }
 {
     let p = sin_cos(x);
-    Complex {
+    Turn {
         re: p.cos,
+        phase: x,
         im: p.sin,
     }
+}
+
+fn factor_of(t: Turn) -> Complex
+    ensures { λ r. ⌜ _≡_ {A = Complex} r (record { re = t .re; im = t .im }) ⌝ }
+{
+    Complex { re: t.re, im: t.im }
 }
 
 // The mean of the phase factors of `count` vectors, from vector `start` on.
@@ -74,7 +90,8 @@ pub fn get_phase_factor(q: &[f64; 3], vectors: &[f64], count: usize, start: usiz
 {
     let mut sum = Complex { re: 0.0, im: 0.0 };
     for i in 0..count {
-        sum = cmplx_add(sum, cis(phase(q, vectors, start + i)));
+        let turn = cis(phase(q, vectors, start + i));
+        sum = cmplx_add(sum, factor_of(turn));
     }
     cmplx_scale(sum, 1.0 / float_of_count(count))
 }
@@ -148,7 +165,8 @@ pub fn get_pre_phase_factor(
     ensures { λ r. ⌜ r ≡ Def.preFactorEntry np (now (vectors .entry)) (now (multiplicity .entry)) (now (p2s .entry)) (record { leg0 = now (q0 .entry); leg1 = now (q1 .entry); leg2 = now (q2 .entry) }) i ⌝ }
 {
     let n = 2 * (index_at(p2s, i) * np) + 1;
-    cis(pre_phase(vectors, q0, q1, q2, index_at(multiplicity, n)))
+    let turn = cis(pre_phase(vectors, q0, q1, q2, index_at(multiplicity, n)));
+    factor_of(turn)
 }
 
 // The pre-factors: np numbers in planes from `off` on.

@@ -1,6 +1,6 @@
 -- The mean over the vectors of a range: after i turns the sum over i vectors.
 use borrow.Author.Needs.{needs}
-use mathlib.Core.Path.{_≡_}
+use mathlib.Core.Path.{_≡_, _∙_}
 use Prim.Native.Nat.{_-_, _≤_}
 use Rattle.real_to_reciprocal.proofs.PhaseLaws.{phaseSum, sum-none, sum-turn, mean-of}
 use native.Mathlib.Omega.{arith}
@@ -25,6 +25,9 @@ phase-requires c κs = omega arith
 cis-requires : tie.Need-cis-requires Inv-loop μ-loop
 cis-requires c κs = search needs
 
+factor-of-requires : tie.Need-factor-of-requires Inv-loop μ-loop
+factor-of-requires c κs = search needs
+
 cmplx-add-requires : tie.Need-cmplx-add-requires Inv-loop μ-loop
 cmplx-add-requires c κs = search needs
 
@@ -36,8 +39,8 @@ loop-less c = omega arith
 
 loop-again : tie.Need-loop-again Inv-loop μ-loop
 loop-again c =
-    let head = c .before .before .before .before in
-    (omega arith, sum-turn _ _ _ (head .loop .i) (head .loop .inv .1) (c .before .before .phase .ensures) (c .before .cis .ensures) (c .cmplx-add .ensures))
+    let head = c .before .before .before .before .before in
+    (omega arith, sum-turn _ _ _ (head .loop .i) (head .loop .inv .1) (c .before .before .before .phase .ensures) (c .before .factor-of .ensures ∙ c .before .before .cis .ensures) (c .cmplx-add .ensures))
 
 float-of-count-requires : tie.Need-float-of-count-requires Inv-loop μ-loop
 float-of-count-requires c κs = search needs
@@ -62,6 +65,7 @@ get-phase-factor-spec =
     add-phase
     phase-requires
     cis-requires
+    factor-of-requires
     cmplx-add-requires
     add-i
     loop-less
