@@ -32,8 +32,8 @@
  * - An array that is written (strengths, totals, work; not the strengths of totals alone) shares no entry with
  *   any other array of the call. Arrays that are only read may share entries.
  * - No other thread changes the arrays during the call, nor looks at those that are written.
- * - The machine rounds to nearest and keeps subnormal numbers, as it does when a C program starts. (A program or
- *   shared object linked by gcc with -ffast-math or -Ofast may start otherwise.)
+ * - The machine rounds to nearest and keeps subnormal numbers, as it does when a C program starts. (gcc and clang
+ *   link a program otherwise with -ffast-math or -Ofast: subnormal numbers then count as zero.)
  *
  *
  * ANSWERS
