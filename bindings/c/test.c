@@ -395,6 +395,6 @@ int main(void)
     unreadable();
     null_pointers();
     names();
-    printf("%s\n", failures == 0 ? "passed" : "failed");
+    printf("tests of wirambolo.h: %s\n", failures == 0 ? "passed" : "failed");
     return failures == 0 ? EXIT_SUCCESS : EXIT_FAILURE;
 }
