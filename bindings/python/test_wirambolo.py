@@ -1,0 +1,360 @@
+"""Tests of wirambolo.py: the key cases M1 to M11, refusals, untouched buffers, and what may be lent.
+
+    python3 -m unittest discover -s bindings/python
+"""
+
+import contextlib
+import io
+import math
+import struct
+import unittest
+from array import array
+
+import example
+import wirambolo
+from wirambolo import AT_FREQUENCY_POINT, AVERAGED, COMPACT, FULL, PER_SLOT, PLAIN, SYMMETRIZED, SYMMETRY_OFF
+
+JOINED = [parameter for parameter, _ in wirambolo.SIGNATURES["wirambolo_joined_at_triplet"]]
+WRITTEN = ("strengths", "totals", "work")
+
+
+def bits(numbers):
+    return struct.pack(f"<{len(numbers)}d", *numbers)
+
+
+def repeated(count, x):
+    return array("d", [x] * count)
+
+
+def cell_u():
+    """What the joined function takes for cell U. Strengths, totals and work at -1.0, and work two numbers longer than W."""
+    constants = [0.0] * 27
+    constants[5] = 16.0
+    return {
+        "atoms": 1,
+        "supercell": 1,
+        "first": 3,
+        "grid": 1,
+        "vectors_count": 1,
+        "anchoring": PLAIN,
+        "cutoff": 0.5,
+        "form": COMPACT,
+        "symmetry": SYMMETRY_OFF,
+        "mesh": [1, 1, 1],
+        "matrix": [1, 0, 0, 0, 1, 0, 0, 0, 1],
+        "triplet": [0, 0, 0],
+        "addresses": [0, 0, 0],
+        "vectors": [0.0, 0.0, 0.0],
+        "multiplicity": [1, 0],
+        "p2s": [0],
+        "s2p": [0],
+        "masses": [4.0],
+        "bands": [0, 1, 2],
+        "frequencies": [1.0, 2.0, 4.0],
+        "eigenvectors": [1.0 if n % 8 == 0 else 0.0 for n in range(18)],
+        "shortest": [0],
+        "nonzero": [1],
+        "constants": constants,
+        "flags": [0] * 27,
+        "weight": 3,
+        "temperature": 0.0,
+        "first_weights": [2.0] * 27,
+        "second_weights": [0.0] * 27,
+        "strengths": repeated(27, -1.0),
+        "totals": repeated(3, -1.0),
+        "work": repeated(205, -1.0),
+    }
+
+
+def changed(table, place, value):
+    table = list(table)
+    table[place] = value
+    return table
+
+
+def holding(first, x, held):
+    """0.0 in each slot but those listed."""
+    strengths = [0.0] * wirambolo.slots(1, first)
+    for b, j, k in held:
+        strengths[wirambolo.slot(1, b, j, k)] = x
+    return strengths
+
+
+def key_cases():
+    """Name, change to U, answer, strengths and totals after the call."""
+    u = cell_u()
+    flagged = changed(u["flags"], 5, 1)
+    at_012 = holding(3, 0.5, [(0, 1, 2)])
+    five = [(0, 2, 1), (1, 0, 2), (1, 2, 0), (2, 0, 1), (2, 1, 0)]
+    bands_0_0 = {
+        "first": 2,
+        "bands": [0, 0],
+        "flags": [0] * 18,
+        "first_weights": [2.0] * 18,
+        "second_weights": [0.0] * 18,
+        "strengths": repeated(18, -1.0),
+        "totals": repeated(2, -1.0),
+    }
+    averaged_48 = {"anchoring": AVERAGED, "constants": changed(u["constants"], 5, 48.0)}
+    return [
+        ("M1", {}, 0, at_012, [3.0, 0.0, 0.0]),
+        ("M2", {"cutoff": 1.0}, 0, [0.0] * 27, [0.0] * 3),
+        ("M3", {"cutoff": 0.75}, 0, at_012, [3.0, 0.0, 0.0]),
+        ("M4", {"flags": flagged}, 0, holding(3, -1.0, [(0, 1, 2)]), [0.0] * 3),
+        ("M5", {"flags": flagged, "symmetry": SYMMETRIZED}, 0, holding(3, 0.5 / 6.0, five), [0.5, 1.0, 1.0]),
+        ("M6", {"anchoring": AVERAGED, "shortest": [1]}, 0, at_012, [3.0, 0.0, 0.0]),
+        ("M7", averaged_48, 0, holding(3, 0.5, [(0, 1, 2), (1, 0, 2), (2, 1, 0)]), [3.0] * 3),
+        ("M8", {"nonzero": [0]}, 0, [0.0] * 27, [0.0] * 3),
+        ("M9", bands_0_0, 0, holding(2, 0.5, [(0, 1, 2), (1, 1, 2)]), [3.0] * 2),
+        ("M10", {"multiplicity": [0, 0]}, 3, [-1.0] * 27, [-1.0] * 3),
+        ("M11", {"temperature": -0.0}, 8, [-1.0] * 27, [-1.0] * 3),
+    ]
+
+
+def spread(seed, count):
+    """Numbers between -1 and 1 with full mantissas, by the rule of bindings/rust/tests/common."""
+    numbers = []
+    for _ in range(count):
+        seed = (seed * 6364136223846793005 + 1442695040888963407) % 2**64
+        numbers.append((seed >> 11) / 2**52 - 1.0)
+    return numbers
+
+
+def positive(seed, count):
+    return [abs(x) + 0.5 for x in spread(seed, count)]
+
+
+def crystal():
+    """The crystal of bindings/rust/tests/common: P = 2, S = 3, F = 4, G = 5, V = 7, so that no slice can stand in for another."""
+    return {
+        "atoms": 2,
+        "supercell": 3,
+        "first": 4,
+        "grid": 5,
+        "vectors_count": 7,
+        "anchoring": AVERAGED,
+        "cutoff": 0.625,
+        "form": FULL,
+        "symmetry": SYMMETRIZED,
+        "mesh": [2, 3, 4],
+        "matrix": [1, 0, -1, 2, 1, 0, 0, -3, 1],
+        "triplet": [1, 2, 3],
+        "addresses": [0, 0, 0, 1, 2, 3, -1, 0, 2, 1, 1, 1, 0, -2, 3],
+        "vectors": spread(1, 21),
+        "multiplicity": [1, 0, 2, 1, 3, 3, 1, 6, 2, 5, 1, 2],
+        "p2s": [0, 2],
+        "s2p": [0, 0, 2],
+        "masses": positive(2, 2),
+        "bands": [5, 0, 3, 3],
+        "frequencies": positive(3, 30),
+        "eigenvectors": spread(4, 360),
+        "shortest": [int(n % 4 == 1) for n in range(18)],
+        "nonzero": [int(n % 5 != 2) for n in range(27)],
+        "constants": spread(5, 729),
+        "flags": [int(n % 3 == 0) for n in range(144)],
+        "weight": 2,
+        "temperature": 1.75,
+        "first_weights": positive(6, 144),
+        "second_weights": spread(7, 144),
+        "strengths": repeated(144, -1.0),
+        "totals": repeated(4, -1.0),
+        "work": repeated(wirambolo.work_length(2, 3) + 2, -1.0),
+    }
+
+
+def crystals():
+    """In each of its settings, in the order of bindings/rust/tests/doors.rs."""
+    for form in (COMPACT, FULL):
+        for anchoring in (PLAIN, AVERAGED):
+            for symmetry in (SYMMETRY_OFF, SYMMETRIZED):
+                for temperature in (0.0, 1.75):
+                    cell = crystal()
+                    cell.update(form=form, anchoring=anchoring, symmetry=symmetry, temperature=temperature)
+                    if form == COMPACT:
+                        cell["nonzero"] = cell["nonzero"][:18]
+                        cell["constants"] = cell["constants"][: 27 * 18]
+                    yield cell
+
+
+def digest(texts):
+    """FNV-1a, 64 bits."""
+    state = 0xCBF29CE484222325
+    for text in texts:
+        for byte in text:
+            state = (state ^ byte) * 0x100000001B3 % 2**64
+    return state
+
+
+class Tests(unittest.TestCase):
+    @classmethod
+    def setUpClass(cls):
+        cls.library = wirambolo.load()
+
+    def joined(self, **change):
+        """The answer to U with a change, and what is left."""
+        return self.worked({**cell_u(), **change})
+
+    def worked(self, cell):
+        answer = 0
+        try:
+            self.library.joined_at_triplet(**cell)
+        except wirambolo.Refused as refused:
+            answer = refused.number
+        return answer, cell
+
+    def untouched(self, answer, cell):
+        """Turned away so, and no buffer changed."""
+        cell = {**cell, **{name: array("d", cell[name]) for name in WRITTEN}}
+        before = {name: bits(cell[name]) for name in WRITTEN}
+        self.assertEqual(self.worked(cell)[0], answer)
+        for name in WRITTEN:
+            self.assertEqual(bits(cell[name]), before[name], name)
+
+    def test_key_cases(self):
+        for name, change, wanted, strengths, totals in key_cases():
+            with self.subTest(name):
+                answer, left = self.joined(**change)
+                self.assertEqual(answer, wanted)
+                self.assertEqual(bits(left["strengths"]), bits(strengths))
+                self.assertEqual(bits(left["totals"]), bits(totals))
+                used = 0 if wanted else wirambolo.work_length(1, 1)
+                self.assertEqual(bits(left["work"]), bits([0.0] * used + [-1.0] * (205 - used)))
+
+    def test_key(self):
+        printed = io.StringIO()
+        with contextlib.redirect_stdout(printed):
+            example.main()
+        self.assertEqual(
+            printed.getvalue(),
+            "bands 3\n"
+            "slot 0 1 2 3fe0000000000000\n"
+            "total 0 4008000000000000\n"
+            "total 1 0000000000000000\n"
+            "total 2 0000000000000000\n",
+        )
+
+    def test_refusals(self):
+        u = cell_u()
+        nan = math.nan
+        cases = [
+            (1, {"atoms": 0}),
+            (1, {"grid": 2**64 - 1}),
+            (2, {"work": repeated(202, -1.0)}),
+            (2, {"totals": repeated(4, -1.0)}),
+            (2, {"vectors": []}),
+            (3, {"triplet": [0, 0, 1]}),
+            (4, {"second_weights": changed(u["second_weights"], 26, nan)}),
+            (4, {"masses": [0.0], "constants": changed(u["constants"], 26, nan)}),
+            (5, {"mesh": [1, 1, 4097]}),
+            (6, {"masses": [-0.0]}),
+            (7, {"cutoff": -0.5}),
+            (8, {"weight": 0}),
+            (9, {"addresses": [1, 0, 0], "vectors": [200000.0, 0.0, 0.0]}),
+            (255, {"form": 2}),
+            (255, {"matrix": [1] * 8}),
+            (255, {"triplet": [], "atoms": 0}),
+        ]
+        for answer, change in cases:
+            with self.subTest(answer=answer, change=change.keys()):
+                self.untouched(answer, {**u, **change})
+
+    def test_lengths(self):
+        """One entry less in each slice, and one more but for work."""
+        for name in JOINED:
+            whole = crystal()[name]
+            if not hasattr(whole, "__len__"):
+                continue
+            fixed = name in ("mesh", "matrix", "triplet")
+            shorter = -3 if name == "work" else -1
+            self.untouched(255 if fixed else 2, {**crystal(), name: whole[:shorter]})
+            if name != "work":
+                self.untouched(255 if fixed else 2, {**crystal(), name: whole + whole[:1]})
+        self.assertEqual(self.worked(crystal())[0], 0)
+
+    def test_doors_agree(self):
+        """Joined is one triplet and totals alone; a list of two is each of them."""
+        for cell in crystals():
+            joined = self.worked({**cell, "strengths": cell["strengths"][:]})[1]
+            strengths = [parameter for parameter, _ in wirambolo.SIGNATURES["wirambolo_get_interaction_at_triplet"]]
+            one = {name: cell[name] for name in strengths}
+            one["strengths"] = cell["strengths"][:]
+            self.library.get_interaction_at_triplet(**one)
+            self.assertEqual(bits(one["strengths"]), bits(joined["strengths"]))
+
+            alone = {name: cell[name] for name in ("atoms", "first", "grid", "triplet", "frequencies", "cutoff", "flags")}
+            alone.update({name: cell[name] for name in ("weight", "temperature", "first_weights", "second_weights")})
+            alone.update(weights=PER_SLOT, strengths=joined["strengths"], totals=repeated(4, -1.0))
+            self.library.imag_self_energy_at_triplet(**alone)
+            self.assertEqual(bits(alone["totals"]), bits(joined["totals"]))
+
+            both = {**one, "list": 2, "triplets": [0, 4, 2] + cell["triplet"], "strengths": repeated(288, -1.0)}
+            del both["triplet"]
+            both["flags"] = [1] * 144 + cell["flags"]
+            self.library.get_interaction(**both)
+            self.assertEqual(bits(both["strengths"][144:]), bits(joined["strengths"]))
+
+    def test_oracle_bits(self):
+        """Strengths and totals have the bits that the oracle (tools/oracle) leaves, by their digest."""
+        lefts = [self.worked(cell)[1] for cell in crystals()]
+        texts = [bits(left[name]) for left in lefts for name in ("strengths", "totals")]
+        self.assertEqual(digest(texts), 0xDB59CC90D6CF1DAD)
+
+    def test_frequency_point(self):
+        totals = array("d", [-1.0] * 3)
+        strengths = [0.25] * 27
+        self.library.imag_self_energy_at_triplet(
+            atoms=1, first=3, grid=1, weights=AT_FREQUENCY_POINT, triplet=[0, 0, 0], frequencies=[1.0, 2.0, 4.0],
+            cutoff=0.5, flags=[0] + [1] * 8, strengths=strengths, weight=3, temperature=0.0,
+            first_weights=[2.0] * 9, second_weights=[0.0] * 9, totals=totals,
+        )
+        self.assertEqual(list(totals), [1.5, 1.5, 1.5])
+
+    def test_values_that_do_not_fit(self):
+        """ctypes would take 256 as the choice 0, and -1 as a measure."""
+        for change in ({"form": 256}, {"atoms": -1}, {"atoms": 2**64}, {"weight": 2**63}, {"symmetry": -1}):
+            with self.subTest(change=change), self.assertRaises(OverflowError):
+                self.joined(**change)
+        for change in ({"flags": [256] * 27}, {"bands": [2**63, 0, 0]}):
+            with self.subTest(change=change), self.assertRaises(OverflowError):
+                self.joined(**change)
+        for change in ({"bands": [0.0, 1.0, 2.0]}, {"weight": 3.0}, {"masses": array("f", [4.0])}, {"p2s": b"\0" * 8}):
+            with self.subTest(change=change), self.assertRaises(TypeError):
+                self.joined(**change)
+
+    def test_names(self):
+        for change in ({"colour": 1}, {"mesh_length": 3}):
+            with self.assertRaises(TypeError):
+                self.joined(**change)
+        short = cell_u()
+        del short["work"]
+        with self.assertRaises(TypeError):
+            self.library.joined_at_triplet(**short)
+
+    def test_what_is_written(self):
+        """A buffer that can be written, and lent once."""
+        for strengths in ([-1.0] * 27, bytes(216), memoryview(array("d", [-1.0] * 27)).toreadonly()):
+            with self.assertRaises(TypeError):
+                self.joined(strengths=strengths)
+        room = array("d", [-1.0] * 240)
+        view = memoryview(room)
+        for change in (
+            {"strengths": view[:27], "work": view[26:235]},
+            {"totals": view[:3], "work": view[:205]},
+            {"work": view[:205], "first_weights": view[204:231]},
+        ):
+            with self.subTest(change=change.keys()), self.assertRaises(ValueError):
+                self.joined(**change)
+        # side by side, and read twice
+        weights = array("d", [2.0] * 27)
+        answer, _ = self.joined(strengths=view[:27], work=view[27:230], first_weights=weights, second_weights=weights)
+        self.assertEqual(answer, 0)
+        self.assertEqual(room[5], 0.5)
+        self.assertEqual(list(room[230:]), [-1.0] * 10)
+
+    def test_work_length(self):
+        self.assertEqual(wirambolo.work_length(1, 1), 203)
+        self.assertEqual(wirambolo.work_length(8, 64), 75712)
+
+
+if __name__ == "__main__":
+    unittest.main()

@@ -1,0 +1,94 @@
+//! Cell U of the key cases with every slot flagged but (0, 1, 2), worked through the joined function; prints its key.
+//!
+//!     cargo run --offline --example key
+
+use wirambolo::*;
+
+const MEASURES: Measures = Measures {
+    atoms: 1,
+    supercell: 1,
+    first: 3,
+    grid: 1,
+    vectors: 1,
+};
+const LENGTHS: Lengths = Lengths::of(&MEASURES, Form::Compact);
+
+fn main() {
+    let mut constants = [0.0; LENGTHS.constants];
+    constants[3 + 2] = 16.0;
+    let mut eigenvectors = [0.0; LENGTHS.eigenvectors];
+    for band in 0..3 {
+        eigenvectors[2 * (3 * band + band)] = 1.0;
+    }
+    let mut flags = [1; LENGTHS.slots];
+    flags[slot(1, 0, 1, 2)] = 0;
+
+    let set = JoinedSet {
+        tables: Tables {
+            measures: MEASURES,
+            settings: Settings {
+                anchoring: Anchoring::Plain,
+                cutoff: 0.5,
+            },
+            form: Form::Compact,
+            symmetry: Symmetry::Off,
+            mesh: [1; 3],
+            matrix: [1, 0, 0, 0, 1, 0, 0, 0, 1],
+            addresses: &[0; 3],
+            vectors: &[0.0; 3],
+            multiplicity: &[1, 0],
+            p2s: &[0],
+            s2p: &[0],
+            masses: &[4.0],
+            bands: &[0, 1, 2],
+            frequencies: &[1.0, 2.0, 4.0],
+            eigenvectors: &eigenvectors,
+            shortest: &[0],
+            nonzero: &[1],
+            constants: &constants,
+        },
+        triplet: [0; 3],
+        flags: &flags,
+        bath: Bath {
+            weight: 3,
+            temperature: 0.0,
+        },
+        first_weights: &[2.0; LENGTHS.slots],
+        second_weights: &[0.0; LENGTHS.slots],
+    };
+    let mut strengths = [0.0; LENGTHS.slots];
+    let mut totals = [0.0; LENGTHS.totals];
+    let mut work = [0.0; LENGTHS.work];
+    match joined_at_triplet(&set, &mut strengths, &mut totals, &mut work) {
+        Ok(()) => print_key(&flags, &strengths, &totals),
+        Err(refusal) => println!("refused {}", refusal.number()),
+    }
+}
+
+/// The slots whose flag is not set, by b, then k, then j; then the totals.
+fn print_key(flags: &[u8], strengths: &[f64], totals: &[f64]) {
+    let Measures { atoms, first, .. } = MEASURES;
+    println!("bands {first}");
+    for b in 0..first {
+        for k in 0..bands(atoms) {
+            for j in 0..bands(atoms) {
+                let n = slot(atoms, b, j, k);
+                if flags[n] == 0 {
+                    println!("slot {b} {j} {k} {:016x}", bits_of(strengths[n]));
+                }
+            }
+        }
+    }
+    for (b, &total) in totals.iter().enumerate() {
+        println!("total {b} {:016x}", bits_of(total));
+    }
+}
+
+/// The bits of x; every NaN counts as one.
+fn bits_of(x: f64) -> u64 {
+    if x.is_nan() {
+        0x7ff8_0000_0000_0000
+    } else {
+        x.to_bits()
+    }
+}
