@@ -21,8 +21,8 @@
  *   (crates/phonon/specs); any NaN counts as equal to any other.
  * - An array whose parameter is const is only read.
  * This is proved: crates/wirambolo_c/src/lib.rt, whose `ensures` name crates/wirambolo_c/specs/Foreign.antt
- * and crates/phonon/specs/Doors.antt. Besides, nothing is allocated and nothing kept from one call to the
- * next, so that several threads may call at once.
+ * and crates/phonon/specs/Doors.antt; docs/CLAIMS.md says what is trusted. Besides, nothing is allocated and
+ * nothing kept from one call to the next, so that several threads may call at once.
  *
  *
  * WHAT IS ASKED OF THE CALLER
@@ -43,7 +43,7 @@
  *     2  length      an array has the wrong length, or work is too short
  *     3  index       an entry of triplet, triplets, p2s, s2p or bands, or a range of vectors in multiplicity,
  *                    lies outside what it points into
- *     4  not finite  an f64 for reading is infinite or a NaN, whether the work would read it or not
+ *     4  not finite  a double for reading is infinite or a NaN, whether the work would read it or not
  *     5  mesh        an entry of addresses, mesh or matrix is beyond its limits
  *     6  mass        a mass is zero (-0.0 too) or below
  *     7  cutoff      the cutoff is below zero (-0.0 is not)
@@ -51,6 +51,7 @@
  *     9  phase       a phase 2*pi*(q . vector) is not within -1,048,576 to 1,048,576: of the q of a leg and a
  *                    vector that multiplicity names, or of the sum of the three q (symmetrized: in any of the
  *                    six orders of the legs) and the first vector of supercell atom p2s[i] and atom 0
+ *                    (phasesOk in crates/phonon/specs/Refusal.antt)
  *   255  unreadable  a choice is neither 0 nor 1, mesh or triplet has not 3 entries, or matrix not 9
  *
  * 255 comes before all others. Of 1 to 9 the lowest that applies is given, over the whole set. A function

@@ -4,6 +4,7 @@
 """
 
 import contextlib
+import ctypes
 import io
 import math
 import struct
@@ -350,6 +351,19 @@ class Tests(unittest.TestCase):
         self.assertEqual(answer, 0)
         self.assertEqual(room[5], 0.5)
         self.assertEqual(list(room[230:]), [-1.0] * 10)
+
+    def test_buffers(self):
+        """Buffers of other makers and shapes, in the caller's memory."""
+        flat = array("d", [-1.0] * 27)
+        square = memoryview(flat).cast("B").cast("d", shape=[3, 9])
+        work = (ctypes.c_double * 203)(*[-1.0] * 203)
+        lent = {"bands": (ctypes.c_int64 * 3)(0, 1, 2), "flags": bytes(27), "shortest": memoryview(bytearray(1)).cast("?")}
+        answer, _ = self.joined(strengths=square, work=work, **lent)
+        self.assertEqual(answer, 0)
+        self.assertEqual(bits(flat), bits(holding(3, 0.5, [(0, 1, 2)])))
+        self.assertEqual(bits(list(work)), bits([0.0] * 203))
+        with self.assertRaises(TypeError):
+            self.joined(strengths=memoryview(array("d", [-1.0] * 54))[::2])
 
     def test_work_length(self):
         self.assertEqual(wirambolo.work_length(1, 1), 203)

@@ -16,13 +16,15 @@ What each parameter holds, its length and its limits stand in include/wirambolo.
 numbers, or anything with a contiguous buffer of the right type (array.array, bytes, a numpy array); no length is handed over,
 it is that of the slice. A slice that is written is such a buffer: array.array('d', ...) or a numpy array of f64.
 
-A set that is turned away raises Refused, whose `number` is the answer; nothing is changed then.
+A set that is turned away raises Refused, whose `number` is the answer; nothing is changed then. During a call no other thread may
+change the slices. The machine must round to nearest and keep subnormal numbers, as it does when Python starts.
 """
 
 import array
 import ctypes
 import operator
 import os
+import sys
 from pathlib import Path
 
 # ---- the four functions, as crates/wirambolo_c/src/lib.rt declares them
@@ -146,6 +148,7 @@ _TYPES = {"usize": ctypes.c_size_t, "u8": ctypes.c_uint8, "i64": ctypes.c_int64,
 # of array.array, and of the buffers that are taken as they are
 _TYPECODES = {"u8": "B", "i64": "q", "f64": "d"}
 _FORMATS = {"u8": ("B", "b", "?"), "i64": ("q", "l"), "f64": ("d",)}
+_NATIVE = "@=<" if sys.byteorder == "little" else "@=>!"
 
 
 def _entry(kind):
@@ -195,7 +198,7 @@ def _slice(parameter, kind, value):
             raise TypeError(f"{parameter}: a buffer is wanted, such as array.array('d', ...)") from None
         view = memoryview(array.array(_TYPECODES[entry], value))
     size = ctypes.sizeof(_TYPES[entry])
-    if view.format not in _FORMATS[entry] or view.itemsize != size or not view.c_contiguous:
+    if view.format.lstrip(_NATIVE) not in _FORMATS[entry] or view.itemsize != size or not view.c_contiguous:
         raise TypeError(f"{parameter}: a contiguous buffer of {entry} is wanted")
     if written and view.readonly:
         raise TypeError(f"{parameter}: the buffer is only for reading")
