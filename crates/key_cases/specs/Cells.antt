@@ -1,10 +1,11 @@
 -- The program's cases as the definitions' sets: what each door is handed of cell U with a case's change.
-use Prim.Native.Nat.{ℕ, _≤_}
+use Prim.Native.Nat.{ℕ, zero, suc, _*_, _≤_}
 use mathlib.Core.Path.{_≡_}
 use mathlib.Core.Bool.{Bool, cond}
 use mathlib.Core.List.{List, [], _++_}
 use lib.IntN.{ℤ}
-use lib.ListN.{length}
+use lib.Dec.{eqb}
+use lib.ListN.{length, take}
 use lib.Ieee.{Float}
 use Rattle.phonon.specs.declared.Anchoring.{Anchoring}
 use Rattle.phonon.specs.declared.Anchoring.the-variants.{Plain, Averaged}
@@ -12,7 +13,8 @@ use Rattle.phonon.specs.declared.Symmetry.{Symmetry}
 use Rattle.phonon.specs.declared.Symmetry.the-variants.{Off, Symmetrized}
 use Rattle.phonon.specs.declared.Weights.the-variants.{PerSlot}
 use Rattle.phonon.specs.Sets.{TripletSet, ListSet, TotalsSet, JoinedSet}
-use Rattle.phonon.specs.KeyCases.{cellU}
+use Rattle.phonon.specs.Doors.{JoinedOutcome}
+use Rattle.phonon.specs.KeyCases.{KeyCase, cellU, worked, untouched}
 use Rattle.key_cases.specs.declared.Case.{Case}
 
 -- the lengths of a case's arrays, and F within them
@@ -29,6 +31,18 @@ symmetryOf symmetrized = cond symmetrized Symmetrized Off
 unfoldable pub cellOf : Case → List ℤ → List ℕ → JoinedSet
 cellOf c bands flags =
     cellU (c .cutoff) (anchoringOf (c .averaged)) (symmetryOf (c .symmetrized)) (c .shortest) (c .nonzero) (c .constant) (c .count) bands flags (c .temperature)
+
+-- the number by which the joined door turns a case away, or 0: the doors of the strengths test theirs first
+unfoldable pub joinedNumber : Case → ℕ
+joinedNumber c = cond (eqb (c .«strengths_number») 0) (c .«totals_number») (c .«strengths_number»)
+
+unfoldable pub outcomeOf : ℕ → Case → JoinedOutcome
+outcomeOf zero c = worked (take (9 * c .first) (c .strengths)) (take (c .first) (c .totals))
+outcomeOf (suc n) c = untouched (suc n)
+
+-- a case of the program as one of the definitions' key cases
+unfoldable pub keyCaseOf : Case → KeyCase
+keyCaseOf c = record { set = cellOf c (take (c .first) (c .bands)) (take (9 * c .first) (c .flags)); outcome = outcomeOf (joinedNumber c) c }
 
 unfoldable pub tripletOf : Case → List ℤ → List ℕ → List Float → List Float → TripletSet
 tripletOf c bands flags strengths work =

@@ -16,11 +16,12 @@ use phonon::Weights;
 ghost use mathlib.Core.Path.{_≡_};
 ghost use mathlib.Core.Bool.{true};
 ghost use mathlib.Core.List.{_∷_, _++_};
-ghost use Prim.Native.Nat.{_+_, _*_, _<_, _≤_};
-ghost use lib.ListN.{length, replicate};
+ghost use Prim.Native.Nat.{_-_, _+_, _*_, _<_, _≤_};
+ghost use lib.ListN.{length, getD, replicate};
 ghost use lib.Seq.{paste};
 ghost use lib.Ieee.{binary64, toBits};
 ghost use Rattle.phonon.specs.Number.{bits, f0};
+ghost use Rattle.phonon.specs.KeyCases.{M1, keyCases};
 ghost use Rattle.phonon.specs.Doors.{StrengthsOutcome, TotalsOutcome, JoinedOutcome, tripletOutcome, listOutcome, totalsOutcome, joinedOutcome, numberOf};
 ghost use Rattle.key_cases.specs.Cells as Cells;
 
@@ -52,7 +53,8 @@ struct Case {
 
 // Case Mn. Slot (0, 1, 2) is number 5.
 fn case_of(n: usize) -> Case
-    ensures { λ r. ⌜ Cells.Sized r ⌝ }
+    requires { ⌜ (1 ≤ n) × (n ≤ 11) ⌝ }
+    ensures { λ r. ⌜ Cells.Sized r × (Cells.keyCaseOf r ≡ getD keyCases (n - 1) M1) ⌝ }
 {
     let mut c = Case {
         cutoff: 0.5,
@@ -76,7 +78,7 @@ fn case_of(n: usize) -> Case
         2 => {
             c.cutoff = 1.0;
             c.strengths[5] = 0.0;
-            c.totals[0] = 0.0;
+            c.totals = [0.0, 0.0, 0.0];
         }
         3 => {
             c.cutoff = 0.75;
@@ -85,7 +87,7 @@ fn case_of(n: usize) -> Case
             c.flags[5] = 1;
             c.flags[32] = 1;
             c.strengths[5] = -1.0;
-            c.totals[0] = 0.0;
+            c.totals = [0.0, 0.0, 0.0];
         }
         5 => {
             c.flags[5] = 1;
@@ -97,9 +99,7 @@ fn case_of(n: usize) -> Case
             c.strengths[15] = SIXTH;
             c.strengths[19] = SIXTH;
             c.strengths[21] = SIXTH;
-            c.totals[0] = 0.5;
-            c.totals[1] = 1.0;
-            c.totals[2] = 1.0;
+            c.totals = [0.5, 1.0, 1.0];
         }
         6 => {
             c.averaged = true;
@@ -110,19 +110,18 @@ fn case_of(n: usize) -> Case
             c.constant = 48.0;
             c.strengths[11] = 0.5;
             c.strengths[21] = 0.5;
-            c.totals[1] = 3.0;
-            c.totals[2] = 3.0;
+            c.totals = [3.0, 3.0, 3.0];
         }
         8 => {
             c.nonzero = 0;
             c.strengths[5] = 0.0;
-            c.totals[0] = 0.0;
+            c.totals = [0.0, 0.0, 0.0];
         }
         9 => {
             c.first = 2;
-            c.bands[1] = 0;
+            c.bands = [0, 0, 0];
             c.strengths[14] = 0.5;
-            c.totals[1] = 3.0;
+            c.totals = [3.0, 3.0, 0.0];
         }
         10 => {
             c.count = 0;
@@ -571,7 +570,9 @@ fn passes(door: Door, name: &[u8], c: Case) -> bool
 }
 
 // Case Mn through every door, on a line.
-fn case_passes(n: usize) -> bool {
+fn case_passes(n: usize) -> bool
+    requires { ⌜ (1 ≤ n) × (n ≤ 11) ⌝ }
+{
     let c = case_of(n);
     io::write_all(STDOUT_FILENO, b"M");
     io::print_decimal(STDOUT_FILENO, n as u64);

@@ -13,7 +13,7 @@ use Rattle.key_cases.proofs.case_passes.Reads as case-passes-reads
 use Rattle.std.proofs.num.wrapping_add_u64.Reads as wrapping-add-u64-reads
 
 abbrev Inv-loop : tie.InvT-loop
-Inv-loop passed₀ n₀ t3 passed n = (n ≤ 12) × (14 ≡ length t3)
+Inv-loop passed₀ n₀ t3 passed n = (1 ≤ n) × (n ≤ 12) × (14 ≡ length t3)
 
 abbrev μ-loop : tie.MeasureT-loop
 μ-loop passed₀ n₀ t3 passed n = 12 - n
