@@ -16,6 +16,9 @@ use Rattle.phonon.specs.Sets.{TripletSet, ListSet, TotalsSet, JoinedSet}
 use Rattle.phonon.specs.Doors.{JoinedOutcome}
 use Rattle.phonon.specs.KeyCases.{KeyCase, cellU, worked, untouched}
 use Rattle.key_cases.specs.declared.Case.{Case}
+use Rattle.key_cases.specs.declared.Door.{Door}
+use Rattle.key_cases.specs.declared.Door.the-variants.{Triplet, Totals, Joined}
+use Rattle.key_cases.specs.declared.Door.the-variants as Doors
 
 -- the lengths of a case's arrays, and F within them
 abbrev pub Sized : Case → Type 0
@@ -35,6 +38,12 @@ cellOf c bands flags =
 -- the number by which the joined door turns a case away, or 0: the doors of the strengths test theirs first
 unfoldable pub joinedNumber : Case → ℕ
 joinedNumber c = cond (eqb (c .«strengths_number») 0) (c .«totals_number») (c .«strengths_number»)
+
+unfoldable pub numberAt : Door → Case → ℕ
+numberAt Triplet c = c .«strengths_number»
+numberAt Doors.List c = c .«strengths_number»
+numberAt Totals c = c .«totals_number»
+numberAt Joined c = joinedNumber c
 
 unfoldable pub outcomeOf : ℕ → Case → JoinedOutcome
 outcomeOf zero c = worked (take (9 * c .first) (c .strengths)) (take (c .first) (c .totals))

@@ -436,7 +436,9 @@ fn run(door: Door, c: Case, strengths: &mut [f64], totals: &mut [f64], work: &mu
 // ---- what the doors are to leave
 
 // The number that the case names; the doors of the strengths test theirs first.
-fn expected_number(door: Door, c: Case) -> u8 {
+fn expected_number(door: Door, c: Case) -> u8
+    ensures { λ r. ⌜ r ≡ Cells.numberAt door c ⌝ }
+{
     match door {
         Door::Triplet => c.strengths_number,
         Door::List => c.strengths_number,

@@ -3,15 +3,11 @@ use mathlib.Core.Path.{refl}
 use Rattle.key_cases.specs.Cells.{anchoringOf}
 use Rattle.key_cases.proofs.anchoring_of.Statement.{statement}
 use Rattle.key_cases.proofs.anchoring_of.Tie as tie
-use Rattle.key_cases.proofs.anchoring_of.Reads as reads
-use Rattle.key_cases.proofs.anchoring_of.Lts as lts
 
--- src/main.rt:155:9
 returns : tie.Need-returns
 unfolding anchoringOf
 returns c = rw (c .if1 .taken) refl
 
--- src/main.rt:151:1
 returns-2 : tie.Need-returns-2
 unfolding anchoringOf
 returns-2 c = rw (c .if1 .left) refl

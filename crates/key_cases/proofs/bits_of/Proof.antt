@@ -10,8 +10,6 @@ use Rattle.phonon.specs.Number.{bits}
 use denote.Floats.{passes}
 use Rattle.key_cases.proofs.bits_of.Statement.{statement}
 use Rattle.key_cases.proofs.bits_of.Tie as tie
-use Rattle.key_cases.proofs.bits_of.Reads as reads
-use Rattle.key_cases.proofs.bits_of.Lts as lts
 
 number : (x : Float) → eq x x ≡ true → T (not (isNan x))
 unfolding eq isNan
@@ -34,11 +32,9 @@ no-number (fin s m e) h =
 float-to-bits-result : tie.Need-float-to-bits-result
 float-to-bits-result c = number (c .before .args .x) (c .if1 .taken)
 
--- src/main.rt:471:9
 returns : tie.Need-returns
 returns c = (refl, sym (ofBits-toBits binary64 (c .before .args .x) (passes _ (c .before .good .0 .1))))
 
--- src/main.rt:469:1
 returns-2 : tie.Need-returns-2
 returns-2 c = no-number (c .before .args .x) (c .if1 .left)
 

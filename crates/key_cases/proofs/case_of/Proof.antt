@@ -8,131 +8,101 @@ use Rattle.key_cases.specs.Cells.{keyCaseOf, cellOf, outcomeOf, joinedNu
 use borrow.Author.Needs.{needs}
 use Rattle.key_cases.proofs.case_of.Statement.{statement}
 use Rattle.key_cases.proofs.case_of.Tie as tie
-use Rattle.key_cases.proofs.case_of.Reads as reads
-use Rattle.key_cases.proofs.case_of.Lts as lts
 
 below : {n : ℕ} (k : ℕ) → n ≤ suc k → (n ≡ suc k → ⊥) → n ≤ k
 below k l d = omega arith
 
--- src/main.rt:76:5
 element-write-c : tie.Need-element-write-c
 element-write-c c = search needs
 
--- src/main.rt:80:13
 element-write-c-2 : tie.Need-element-write-c-2
 element-write-c-2 c = search needs
 
--- src/main.rt:87:13
 element-write-c-3 : tie.Need-element-write-c-3
 element-write-c-3 c = search needs
 
--- src/main.rt:88:13
 element-write-c-4 : tie.Need-element-write-c-4
 element-write-c-4 c = search needs
 
--- src/main.rt:89:13
 element-write-c-5 : tie.Need-element-write-c-5
 element-write-c-5 c = search needs
 
--- src/main.rt:93:13
 element-write-c-6 : tie.Need-element-write-c-6
 element-write-c-6 c = search needs
 
--- src/main.rt:94:13
 element-write-c-7 : tie.Need-element-write-c-7
 element-write-c-7 c = search needs
 
--- src/main.rt:96:13
 element-write-c-8 : tie.Need-element-write-c-8
 element-write-c-8 c = search needs
 
--- src/main.rt:97:13
 element-write-c-9 : tie.Need-element-write-c-9
 element-write-c-9 c = search needs
 
--- src/main.rt:98:13
 element-write-c-10 : tie.Need-element-write-c-10
 element-write-c-10 c = search needs
 
--- src/main.rt:99:13
 element-write-c-11 : tie.Need-element-write-c-11
 element-write-c-11 c = search needs
 
--- src/main.rt:100:13
 element-write-c-12 : tie.Need-element-write-c-12
 element-write-c-12 c = search needs
 
--- src/main.rt:101:13
 element-write-c-13 : tie.Need-element-write-c-13
 element-write-c-13 c = search needs
 
--- src/main.rt:111:13
 element-write-c-14 : tie.Need-element-write-c-14
 element-write-c-14 c = search needs
 
--- src/main.rt:112:13
 element-write-c-15 : tie.Need-element-write-c-15
 element-write-c-15 c = search needs
 
--- src/main.rt:117:13
 element-write-c-16 : tie.Need-element-write-c-16
 element-write-c-16 c = search needs
 
--- src/main.rt:123:13
 element-write-c-17 : tie.Need-element-write-c-17
 element-write-c-17 c = search needs
 
--- src/main.rt:55:1
 returns : tie.Need-returns
 unfolding keyCaseOf cellOf outcomeOf joinedNumber anchoringOf symmetryOf evaluate
 returns c = (search needs, rw (c .before .match .keys1) refl)
 
--- src/main.rt:55:1
 returns-2 : tie.Need-returns-2
 unfolding keyCaseOf cellOf outcomeOf joinedNumber anchoringOf symmetryOf evaluate
 returns-2 c = (search needs, rw (c .match .keys2) refl)
 
--- src/main.rt:55:1
 returns-3 : tie.Need-returns-3
 unfolding keyCaseOf cellOf outcomeOf joinedNumber anchoringOf symmetryOf evaluate
 returns-3 c = (search needs, rw (c .before .match .keys3) refl)
 
--- src/main.rt:55:1
 returns-4 : tie.Need-returns-4
 unfolding keyCaseOf cellOf outcomeOf joinedNumber anchoringOf symmetryOf evaluate
 returns-4 c = (search needs, rw (c .before .match .keys4) refl)
 
--- src/main.rt:55:1
 returns-5 : tie.Need-returns-5
 unfolding keyCaseOf cellOf outcomeOf joinedNumber anchoringOf symmetryOf evaluate
 returns-5 c = (search needs, rw (c .match .keys5) refl)
 
--- src/main.rt:55:1
 returns-6 : tie.Need-returns-6
 unfolding keyCaseOf cellOf outcomeOf joinedNumber anchoringOf symmetryOf evaluate
 returns-6 c = (search needs, rw (c .before .match .keys6) refl)
 
--- src/main.rt:55:1
 returns-7 : tie.Need-returns-7
 unfolding keyCaseOf cellOf outcomeOf joinedNumber anchoringOf symmetryOf evaluate
 returns-7 c = (search needs, rw (c .before .match .keys7) refl)
 
--- src/main.rt:55:1
 returns-8 : tie.Need-returns-8
 unfolding keyCaseOf cellOf outcomeOf joinedNumber anchoringOf symmetryOf evaluate
 returns-8 c = (search needs, rw (c .before .before .match .keys8) refl)
 
--- src/main.rt:55:1
 returns-9 : tie.Need-returns-9
 unfolding keyCaseOf cellOf outcomeOf joinedNumber anchoringOf symmetryOf evaluate
 returns-9 c = (search needs, rw (c .match .keys9) refl)
 
--- src/main.rt:55:1
 returns-10 : tie.Need-returns-10
 unfolding keyCaseOf cellOf outcomeOf joinedNumber anchoringOf symmetryOf evaluate
 returns-10 c = (search needs, rw (c .match .keys10) refl)
 
--- src/main.rt:55:1
 returns-11 : tie.Need-returns-11
 unfolding keyCaseOf cellOf outcomeOf joinedNumber anchoringOf symmetryOf evaluate
 returns-11 c =

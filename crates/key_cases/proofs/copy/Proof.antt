@@ -8,8 +8,6 @@ use Rattle.phonon.specs.Number.{at}
 use lib.Seq.{paste, paste-zero, paste-suc, length-paste}
 use Rattle.key_cases.proofs.copy.Statement.{statement}
 use Rattle.key_cases.proofs.copy.Tie as tie
-use Rattle.key_cases.proofs.copy.Reads as reads
-use Rattle.key_cases.proofs.copy.Lts as lts
 
 abbrev Inv-loop : tie.InvT-loop
 Inv-loop from to₀ at n i₀ to i = (i ≤ n) × (to ≡ paste to₀ at from i)
@@ -17,42 +15,33 @@ Inv-loop from to₀ at n i₀ to i = (i ≤ n) × (to ≡ paste to₀ at from i)
 abbrev μ-loop : tie.MeasureT-loop
 μ-loop from to₀ at n i₀ to i = n - i
 
--- src/main.rt:429:5
 loop-holds : tie.Need-loop-holds Inv-loop μ-loop
 loop-holds c = (omega arith, paste-zero (c .args .to .now) (c .args .at) (c .args .from .now))
 
--- src/main.rt:430:22
 mul-to : tie.Need-mul-to Inv-loop μ-loop
 mul-to c = omega arith
 
--- src/main.rt:430:22
 shared-slice-read-to : tie.Need-shared-slice-read-to Inv-loop μ-loop
 shared-slice-read-to c = omega arith
 
--- src/main.rt:430:12
 add-to : tie.Need-add-to Inv-loop μ-loop
 add-to c = omega arith
 
--- src/main.rt:430:9
 mul-to-2 : tie.Need-mul-to-2 Inv-loop μ-loop
 mul-to-2 c = omega arith
 
--- src/main.rt:430:9
 slice-write-to : tie.Need-slice-write-to Inv-loop μ-loop
 slice-write-to c =
     let l = c .before .before .loop in
     let a = c .before .before .before .args in
     omega (arith, ap length (l .inv .1) ∙ length-paste (a .to .now) (a .at) (a .from .now) (l .i) (omega arith) (omega arith))
 
--- src/main.rt:429:9
 add-i : tie.Need-add-i Inv-loop μ-loop
 add-i c = omega arith
 
--- src/main.rt:429:5
 loop-less : tie.Need-loop-less Inv-loop μ-loop
 loop-less c = omega arith
 
--- src/main.rt:429:5
 loop-again : tie.Need-loop-again Inv-loop μ-loop
 loop-again c =
     let l = c .before .before .loop in
@@ -60,14 +49,12 @@ loop-again c =
     let a = c .before .before .before .args in
     (omega arith, ap (λ z. set z (a .at + l .i) (at (a .from .now) (l .i))) (l .inv .1) ∙ paste-suc (a .to .now) (a .at) (a .from .now) (l .i) nan (omega arith) (omega arith) ∙ rw e)
 
--- src/main.rt:425:1
 same-length : tie.Need-same-length Inv-loop μ-loop
 same-length c =
     let l = c .before .loop in
     let a = c .before .before .args in
     ap length (l .inv .1) ∙ length-paste (a .to .now) (a .at) (a .from .now) (l .i) (omega arith) (omega arith)
 
--- src/main.rt:425:1
 returns : tie.Need-returns Inv-loop μ-loop
 returns c =
     let l = c .before .loop in

@@ -5,12 +5,6 @@ use borrow.Author.Needs.{needs}
 use lib.ListN.{length}
 use Rattle.key_cases.proofs.main.Statement.{statement}
 use Rattle.key_cases.proofs.main.Tie as tie
-use Rattle.key_cases.proofs.main.Reads as reads
-use Rattle.key_cases.proofs.main.Lts as lts
-use Rattle.io.proofs.print_decimal.Reads as print-decimal-reads
-use Rattle.io.proofs.write_all.Reads as write-all-reads
-use Rattle.key_cases.proofs.case_passes.Reads as case-passes-reads
-use Rattle.std.proofs.num.wrapping_add_u64.Reads as wrapping-add-u64-reads
 
 abbrev Inv-loop : tie.InvT-loop
 Inv-loop passed₀ n₀ t3 passed n = (1 ≤ n) × (n ≤ 12) × (14 ≡ length t3)
@@ -18,43 +12,33 @@ Inv-loop passed₀ n₀ t3 passed n = (1 ≤ n) × (n ≤ 12) × (14 ≡ length 
 abbrev μ-loop : tie.MeasureT-loop
 μ-loop passed₀ n₀ t3 passed n = 12 - n
 
--- src/main.rt:555:5
 loop-holds : tie.Need-loop-holds Inv-loop μ-loop
 loop-holds c = search needs
 
--- src/main.rt:556:12
 case-passes-requires : tie.Need-case-passes-requires Inv-loop μ-loop
 case-passes-requires c κs = search needs
 
--- src/main.rt:557:13
 wrapping-add-u64-requires : tie.Need-wrapping-add-u64-requires Inv-loop μ-loop
 wrapping-add-u64-requires c κs = search needs
 
--- src/main.rt:555:9
 add-n : tie.Need-add-n Inv-loop μ-loop
 add-n c = search needs
 
--- src/main.rt:555:5
 loop-less : tie.Need-loop-less Inv-loop μ-loop
 loop-less c = search needs
 
--- src/main.rt:555:5
 loop-again : tie.Need-loop-again Inv-loop μ-loop
 loop-again c = search needs
 
--- src/main.rt:560:5
 print-decimal-requires : tie.Need-print-decimal-requires Inv-loop μ-loop
 print-decimal-requires c κs = search needs
 
--- src/main.rt:561:34
 slice-aggregate-write-all : tie.Need-slice-aggregate-write-all Inv-loop μ-loop
 slice-aggregate-write-all c = search needs
 
--- src/main.rt:561:5
 write-all-requires : tie.Need-write-all-requires Inv-loop μ-loop
 write-all-requires c κs = search needs
 
--- src/main.rt:553:1
 returns : tie.Need-returns Inv-loop μ-loop
 returns c = search needs
 

@@ -1,91 +1,66 @@
+-- The door's outcome, of cell U with the case's change.
 use mir.ValLaws.{toZ-ofZ}
 use mir.Syntax.{w64}
--- The door's outcome, of cell U with the case's change.
 use Rattle.phonon.specs.KeyCases.{cellU}
 use Rattle.key_cases.specs.Cells.{cellOf, joinedOf}
 use borrow.Author.Needs.{needs}
 use Rattle.key_cases.proofs.run_joined.Statement.{statement}
 use Rattle.key_cases.proofs.run_joined.Tie as tie
-use Rattle.key_cases.proofs.run_joined.Reads as reads
-use Rattle.key_cases.proofs.run_joined.Lts as lts
-use Rattle.joined.proofs.joined_at_triplet.Reads as joined-at-triplet-reads
-use Rattle.key_cases.proofs.anchoring_of.Reads as anchoring-of-reads
-use Rattle.key_cases.proofs.constants_of.Reads as constants-of-reads
-use Rattle.key_cases.proofs.symmetry_of.Reads as symmetry-of-reads
 
--- src/main.rt:279:24
 anchoring-of-requires : tie.Need-anchoring-of-requires
 anchoring-of-requires c κs = search needs
 
--- src/main.rt:283:9
 symmetry-of-requires : tie.Need-symmetry-of-requires
 symmetry-of-requires c κs = search needs
 
--- src/main.rt:291:9
 slice-aggregate-joined-at-triplet : tie.Need-slice-aggregate-joined-at-triplet
 slice-aggregate-joined-at-triplet c = search needs
 
--- src/main.rt:292:9
 slice-aggregate-joined-at-triplet-2 : tie.Need-slice-aggregate-joined-at-triplet-2
 slice-aggregate-joined-at-triplet-2 c = search needs
 
--- src/main.rt:293:9
 slice-aggregate-joined-at-triplet-3 : tie.Need-slice-aggregate-joined-at-triplet-3
 slice-aggregate-joined-at-triplet-3 c = search needs
 
--- src/main.rt:294:9
 slice-aggregate-joined-at-triplet-4 : tie.Need-slice-aggregate-joined-at-triplet-4
 slice-aggregate-joined-at-triplet-4 c = search needs
 
--- src/main.rt:295:9
 slice-aggregate-joined-at-triplet-5 : tie.Need-slice-aggregate-joined-at-triplet-5
 slice-aggregate-joined-at-triplet-5 c = search needs
 
--- src/main.rt:296:9
 slice-aggregate-joined-at-triplet-6 : tie.Need-slice-aggregate-joined-at-triplet-6
 slice-aggregate-joined-at-triplet-6 c = search needs
 
--- src/main.rt:298:9
 slice-aggregate-joined-at-triplet-7 : tie.Need-slice-aggregate-joined-at-triplet-7
 slice-aggregate-joined-at-triplet-7 c = search needs
 
--- src/main.rt:299:9
 slice-aggregate-joined-at-triplet-8 : tie.Need-slice-aggregate-joined-at-triplet-8
 slice-aggregate-joined-at-triplet-8 c = search needs
 
--- src/main.rt:300:9
 slice-aggregate-joined-at-triplet-9 : tie.Need-slice-aggregate-joined-at-triplet-9
 slice-aggregate-joined-at-triplet-9 c = search needs
 
--- src/main.rt:301:9
 slice-aggregate-joined-at-triplet-10 : tie.Need-slice-aggregate-joined-at-triplet-10
 slice-aggregate-joined-at-triplet-10 c = search needs
 
--- src/main.rt:302:10
 constants-of-requires : tie.Need-constants-of-requires
 constants-of-requires c κs = search needs
 
--- src/main.rt:302:9
 slice-aggregate-joined-at-triplet-11 : tie.Need-slice-aggregate-joined-at-triplet-11
 slice-aggregate-joined-at-triplet-11 c = search needs
 
--- src/main.rt:270:5
 joined-at-triplet-requires : tie.Need-joined-at-triplet-requires
 joined-at-triplet-requires c κs = search needs
 
--- src/main.rt:258:1
 same-length : tie.Need-same-length
 same-length c = search needs
 
--- src/main.rt:258:1
 same-length-2 : tie.Need-same-length-2
 same-length-2 c = search needs
 
--- src/main.rt:258:1
 same-length-3 : tie.Need-same-length-3
 same-length-3 c = search needs
 
--- src/main.rt:258:1
 returns : tie.Need-returns
 unfolding joinedOf cellOf cellU
 returns c =

@@ -1,91 +1,66 @@
+-- The door's outcome, of cell U with the case's change.
 use mir.ValLaws.{toZ-ofZ}
 use mir.Syntax.{w64}
--- The door's outcome, of cell U with the case's change.
 use Rattle.phonon.specs.KeyCases.{cellU}
 use Rattle.key_cases.specs.Cells.{cellOf, listOf}
 use borrow.Author.Needs.{needs}
 use Rattle.key_cases.proofs.run_list.Statement.{statement}
 use Rattle.key_cases.proofs.run_list.Tie as tie
-use Rattle.key_cases.proofs.run_list.Reads as reads
-use Rattle.key_cases.proofs.run_list.Lts as lts
-use Rattle.interaction.proofs.list.get_interaction.Reads as get-interaction-reads
-use Rattle.key_cases.proofs.anchoring_of.Reads as anchoring-of-reads
-use Rattle.key_cases.proofs.constants_of.Reads as constants-of-reads
-use Rattle.key_cases.proofs.symmetry_of.Reads as symmetry-of-reads
 
--- src/main.rt:230:24
 anchoring-of-requires : tie.Need-anchoring-of-requires
 anchoring-of-requires c κs = search needs
 
--- src/main.rt:234:9
 symmetry-of-requires : tie.Need-symmetry-of-requires
 symmetry-of-requires c κs = search needs
 
--- src/main.rt:238:9
 slice-aggregate-get-interaction : tie.Need-slice-aggregate-get-interaction
 slice-aggregate-get-interaction c = search needs
 
--- src/main.rt:239:9
 slice-aggregate-get-interaction-2 : tie.Need-slice-aggregate-get-interaction-2
 slice-aggregate-get-interaction-2 c = search needs
 
--- src/main.rt:240:9
 slice-aggregate-get-interaction-3 : tie.Need-slice-aggregate-get-interaction-3
 slice-aggregate-get-interaction-3 c = search needs
 
--- src/main.rt:241:9
 slice-aggregate-get-interaction-4 : tie.Need-slice-aggregate-get-interaction-4
 slice-aggregate-get-interaction-4 c = search needs
 
--- src/main.rt:242:9
 slice-aggregate-get-interaction-5 : tie.Need-slice-aggregate-get-interaction-5
 slice-aggregate-get-interaction-5 c = search needs
 
--- src/main.rt:243:9
 slice-aggregate-get-interaction-6 : tie.Need-slice-aggregate-get-interaction-6
 slice-aggregate-get-interaction-6 c = search needs
 
--- src/main.rt:244:9
 slice-aggregate-get-interaction-7 : tie.Need-slice-aggregate-get-interaction-7
 slice-aggregate-get-interaction-7 c = search needs
 
--- src/main.rt:246:9
 slice-aggregate-get-interaction-8 : tie.Need-slice-aggregate-get-interaction-8
 slice-aggregate-get-interaction-8 c = search needs
 
--- src/main.rt:247:9
 slice-aggregate-get-interaction-9 : tie.Need-slice-aggregate-get-interaction-9
 slice-aggregate-get-interaction-9 c = search needs
 
--- src/main.rt:248:9
 slice-aggregate-get-interaction-10 : tie.Need-slice-aggregate-get-interaction-10
 slice-aggregate-get-interaction-10 c = search needs
 
--- src/main.rt:249:9
 slice-aggregate-get-interaction-11 : tie.Need-slice-aggregate-get-interaction-11
 slice-aggregate-get-interaction-11 c = search needs
 
--- src/main.rt:250:10
 constants-of-requires : tie.Need-constants-of-requires
 constants-of-requires c κs = search needs
 
--- src/main.rt:250:9
 slice-aggregate-get-interaction-12 : tie.Need-slice-aggregate-get-interaction-12
 slice-aggregate-get-interaction-12 c = search needs
 
--- src/main.rt:221:5
 get-interaction-requires : tie.Need-get-interaction-requires
 get-interaction-requires c κs = search needs
 
--- src/main.rt:218:1
 same-length : tie.Need-same-length
 same-length c = search needs
 
--- src/main.rt:218:1
 same-length-2 : tie.Need-same-length-2
 same-length-2 c = search needs
 
--- src/main.rt:218:1
 returns : tie.Need-returns
 unfolding listOf cellOf cellU
 returns c =

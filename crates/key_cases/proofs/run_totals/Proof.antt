@@ -4,23 +4,16 @@ use Rattle.key_cases.specs.Cells.{cellOf, totalsOf}
 use borrow.Author.Needs.{needs}
 use Rattle.key_cases.proofs.run_totals.Statement.{statement}
 use Rattle.key_cases.proofs.run_totals.Tie as tie
-use Rattle.key_cases.proofs.run_totals.Reads as reads
-use Rattle.key_cases.proofs.run_totals.Lts as lts
-use Rattle.imag_self_energy.proofs.imag_self_energy_at_triplet.Reads as imag-self-energy-at-triplet-reads
 
--- src/main.rt:324:9
 slice-aggregate-imag-self-energy-at-triplet : tie.Need-slice-aggregate-imag-self-energy-at-triplet
 slice-aggregate-imag-self-energy-at-triplet c = search needs
 
--- src/main.rt:316:5
 imag-self-energy-at-triplet-requires : tie.Need-imag-self-energy-at-triplet-requires
 imag-self-energy-at-triplet-requires c κs = search needs
 
--- src/main.rt:313:1
 same-length : tie.Need-same-length
 same-length c = search needs
 
--- src/main.rt:313:1
 returns : tie.Need-returns
 unfolding totalsOf cellOf cellU
 returns c = c .before .before .imag-self-energy-at-triplet .ensures

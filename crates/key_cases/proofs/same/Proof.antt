@@ -11,9 +11,6 @@ use lib.Ieee.{nan, binary64, toBits}
 use Rattle.phonon.specs.Number.{at, bits}
 use Rattle.key_cases.proofs.same.Statement.{statement}
 use Rattle.key_cases.proofs.same.Tie as tie
-use Rattle.key_cases.proofs.same.Reads as reads
-use Rattle.key_cases.proofs.same.Lts as lts
-use Rattle.key_cases.proofs.bits_of.Reads as bits-of-reads
 
 abbrev Inv-loop : tie.InvT-loop
 Inv-loop found expected i₀ i-end i =
@@ -22,60 +19,47 @@ Inv-loop found expected i₀ i-end i =
 abbrev μ-loop : tie.MeasureT-loop
 μ-loop found expected i₀ i-end i = i-end - i
 
--- src/main.rt:479:9
 returns : tie.Need-returns Inv-loop μ-loop
 returns c = (λ e. absurd (true≢false (sym e)), λ e. absurd (c .if1 .taken (ap length e)))
 
--- src/main.rt:481:5
 loop-holds : tie.Need-loop-holds Inv-loop μ-loop
 loop-holds c = (omega arith, refl, c .if1 .left, λ k h. absurd (omega arith))
 
--- src/main.rt:482:20
 mul-bits-of : tie.Need-mul-bits-of Inv-loop μ-loop
 mul-bits-of c = omega arith
 
--- src/main.rt:482:20
 shared-slice-read-bits-of : tie.Need-shared-slice-read-bits-of Inv-loop μ-loop
 shared-slice-read-bits-of c = omega arith
 
--- src/main.rt:482:12
 bits-of-requires : tie.Need-bits-of-requires Inv-loop μ-loop
 bits-of-requires c κs = search needs
 
--- src/main.rt:482:41
 mul-bits-of-2 : tie.Need-mul-bits-of-2 Inv-loop μ-loop
 mul-bits-of-2 c = omega arith
 
--- src/main.rt:482:41
 shared-slice-read-bits-of-2 : tie.Need-shared-slice-read-bits-of-2 Inv-loop μ-loop
 shared-slice-read-bits-of-2 c = omega arith
 
--- src/main.rt:482:33
 bits-of-requires-2 : tie.Need-bits-of-requires-2 Inv-loop μ-loop
 bits-of-requires-2 c κs = search needs
 
--- src/main.rt:483:13
 returns-2 : tie.Need-returns-2 Inv-loop μ-loop
 returns-2 c =
     let i = c .before .before .before .before .before .before .loop .i in
     (λ e. absurd (true≢false (sym e)), λ e. absurd (c .if2 .taken (c .before .before .before .bits-of .ensures .0 ∙ ap (λ l. toBits binary64 (at l i)) e ∙ sym (c .before .bits-of2 .ensures .0))))
 
--- src/main.rt:481:9
 add-i : tie.Need-add-i Inv-loop μ-loop
 add-i c = omega arith
 
--- src/main.rt:481:5
 loop-less : tie.Need-loop-less Inv-loop μ-loop
 loop-less c = omega arith
 
--- src/main.rt:481:5
 loop-again : tie.Need-loop-again Inv-loop μ-loop
 loop-again c =
     let l = c .before .before .before .before .before .before .loop in
     let e = c .before .before .before .bits-of .ensures .1 ∙ ap bits (c .if2 .left) ∙ sym (c .before .bits-of2 .ensures .1) in
     (omega arith, refl, l .inv .2, below-more _ (l .i) (l .inv .3) e)
 
--- src/main.rt:477:1
 returns-3 : tie.Need-returns-3 Inv-loop μ-loop
 returns-3 c =
     let l = c .before .loop in

@@ -3,15 +3,11 @@ use mathlib.Core.Path.{refl}
 use Rattle.key_cases.specs.Cells.{symmetryOf}
 use Rattle.key_cases.proofs.symmetry_of.Statement.{statement}
 use Rattle.key_cases.proofs.symmetry_of.Tie as tie
-use Rattle.key_cases.proofs.symmetry_of.Reads as reads
-use Rattle.key_cases.proofs.symmetry_of.Lts as lts
 
--- src/main.rt:164:9
 returns : tie.Need-returns
 unfolding symmetryOf
 returns c = rw (c .if1 .taken) refl
 
--- src/main.rt:160:1
 returns-2 : tie.Need-returns-2
 unfolding symmetryOf
 returns-2 c = rw (c .if1 .left) refl
