@@ -16,6 +16,15 @@ in-range x e = by (lt limit x) (le f0 x) e
     by true b u = absurd (true≢false (sym u))
     by false b u = (refl, u)
 
+-- what is not in the range and not above it is below 0, or a NaN
+pub below : (x : Float) → reducible x ≡ false → lt limit x ≡ false → le f0 x ≡ false
+unfolding reducible
+below x e h = by (lt limit x) (le f0 x) e h
+  where
+    by : (a b : Bool) → (not a && b) ≡ false → a ≡ false → b ≡ false
+    by true b u v = absurd (true≢false v)
+    by false b u v = u
+
 pub exp-parts : (x p t : Float) → reducible x ≡ true → p ≡ expSeries (remainder x (whole (count x))) → t ≡ fin false 1 (pos (count x)) → p ⊗ t ≡ exp x
 unfolding exp byRange scaled
 exp-parts x p t e hp ht = let h = in-range x e in rw (h .0, h .1, hp, ht) refl

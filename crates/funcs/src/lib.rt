@@ -65,43 +65,6 @@ fn power_of_two(k: u64) -> f64
     f64::from_bits((k + 1023) * 0x10_0000_0000_0000)
 }
 
-// The exponential of x. Above 709 it is infinity; below 0, and of a NaN, it is a NaN.
-pub fn exp(x: f64) -> f64
-    ensures { λ r. ⌜ r ≡ Exp.exp x ⌝ }
-{
-    if x > 709.0 {
-        return 1.0 / 0.0;
-    }
-    if x >= 0.0 {
-        let k = std::num::truncating_f64_to_u64(x * LOG2_E);
-        let whole = std::num::nearest_u64_to_f64(k);
-        let r = (x - whole * LN_2_HIGH) - whole * LN_2_LOW;
-        return exp_series(r) * power_of_two(k);
-    }
-    0.0 / 0.0
-}
-
-// ---- two exponentials side by side, whose divisions then share their instructions
-
-pub struct Two {
-    pub one: f64,
-    pub two: f64,
-}
-
-fn exp_series_two(r: f64, s: f64) -> Two
-    ensures { λ p. ⌜ (p .one ≡ Exp.expSeries r) × (p .two ≡ Exp.expSeries s) ⌝ }
-{
-    let mut p = 1.0;
-    let mut q = 1.0;
-    let mut i = 0usize;
-    while i < 18 {
-        p = 1.0 + p * (r / EXP_DIVISORS[i]);
-        q = 1.0 + q * (s / EXP_DIVISORS[i]);
-        i += 1;
-    }
-    Two { one: p, two: q }
-}
-
 // Neither above 709 nor below 0, and no NaN.
 fn is_reducible(x: f64) -> bool
     ensures { λ r. ⌜ r ≡ reducible x ⌝ }
@@ -125,6 +88,41 @@ fn reduce(x: f64) -> Reduced
         remainder: (x - whole * LN_2_HIGH) - whole * LN_2_LOW,
         power: power_of_two(k),
     }
+}
+
+// The exponential of x. Above 709 it is infinity; below 0, and of a NaN, it is a NaN.
+pub fn exp(x: f64) -> f64
+    ensures { λ r. ⌜ r ≡ Exp.exp x ⌝ }
+{
+    if is_reducible(x) {
+        let a = reduce(x);
+        return exp_series(a.remainder) * a.power;
+    }
+    if x > 709.0 {
+        return 1.0 / 0.0;
+    }
+    0.0 / 0.0
+}
+
+// ---- two exponentials side by side, whose divisions then share their instructions
+
+pub struct Two {
+    pub one: f64,
+    pub two: f64,
+}
+
+fn exp_series_two(r: f64, s: f64) -> Two
+    ensures { λ p. ⌜ (p .one ≡ Exp.expSeries r) × (p .two ≡ Exp.expSeries s) ⌝ }
+{
+    let mut p = 1.0;
+    let mut q = 1.0;
+    let mut i = 0usize;
+    while i < 18 {
+        p = 1.0 + p * (r / EXP_DIVISORS[i]);
+        q = 1.0 + q * (s / EXP_DIVISORS[i]);
+        i += 1;
+    }
+    Two { one: p, two: q }
 }
 
 pub fn exp_two(x: f64, y: f64) -> Two
