@@ -4,6 +4,7 @@ pub mod Series
 pub mod Powers
 pub mod Compare
 pub mod Range
+pub mod Reducible
 pub mod Bounds
 pub mod Floor
 pub mod Signs

@@ -1,17 +1,18 @@
 // funcs.rs: the occupation of a phonon. Beside it the exponential, the sine and the cosine, which the language lacks.
 use phonon::SinCos;
 ghost use mathlib.Core.Path.{_≡_};
-ghost use mathlib.Core.Bool.{false};
+ghost use mathlib.Core.Bool.{true, false};
 ghost use mathlib.Core.List.{foldl};
 ghost use Prim.Native.Nat.{_≤_};
 ghost use lib.IntN.{pos};
 ghost use lib.ListN.{length};
 ghost use lib.Ieee.{fin};
-ghost use Rattle.phonon.specs.Number.{_⊖_, _⊗_, _⊘_, f1, float};
+ghost use Rattle.phonon.specs.Number.{_⊖_, _⊗_, _⊘_, f1, float, whole};
 ghost use Rattle.phonon.specs.Exp as Exp;
 ghost use Rattle.phonon.specs.Trig as Trig;
 ghost use Rattle.phonon.specs.Funcs.{boseEinstein};
 ghost use Rattle.funcs.specs.Floor.{Within};
+ghost use Rattle.funcs.specs.Reducible.{reducible};
 
 // n, for n = 18 down to 1.
 const EXP_DIVISORS: [f64; 18] = [
@@ -79,6 +80,70 @@ pub fn exp(x: f64) -> f64
         return exp_series(r) * power_of_two(k);
     }
     0.0 / 0.0
+}
+
+// ---- two exponentials side by side, whose divisions then share their instructions
+
+pub struct Two {
+    pub one: f64,
+    pub two: f64,
+}
+
+fn exp_series_two(r: f64, s: f64) -> Two
+    ensures { λ p. ⌜ (p .one ≡ Exp.expSeries r) × (p .two ≡ Exp.expSeries s) ⌝ }
+{
+    let mut p = 1.0;
+    let mut q = 1.0;
+    let mut i = 0usize;
+    while i < 18 {
+        p = 1.0 + p * (r / EXP_DIVISORS[i]);
+        q = 1.0 + q * (s / EXP_DIVISORS[i]);
+        i += 1;
+    }
+    Two { one: p, two: q }
+}
+
+// Neither above 709 nor below 0, and no NaN.
+fn is_reducible(x: f64) -> bool
+    ensures { λ r. ⌜ r ≡ reducible x ⌝ }
+{
+    if x > 709.0 { false } else { x >= 0.0 }
+}
+
+// What is left of x after k times ln 2, and 2 ^ k.
+struct Reduced {
+    remainder: f64,
+    power: f64,
+}
+
+fn reduce(x: f64) -> Reduced
+    requires { ⌜ reducible x ≡ true ⌝ }
+    ensures { λ r. ⌜ (r .remainder ≡ Exp.remainder x (whole (Exp.count x))) × (r .power ≡ fin false 1 (pos (Exp.count x))) ⌝ }
+{
+    let k = std::num::truncating_f64_to_u64(x * LOG2_E);
+    let whole = std::num::nearest_u64_to_f64(k);
+    Reduced {
+        remainder: (x - whole * LN_2_HIGH) - whole * LN_2_LOW,
+        power: power_of_two(k),
+    }
+}
+
+pub fn exp_two(x: f64, y: f64) -> Two
+    ensures { λ r. ⌜ (r .one ≡ Exp.exp x) × (r .two ≡ Exp.exp y) ⌝ }
+{
+    if is_reducible(x) & is_reducible(y) {
+        let a = reduce(x);
+        let b = reduce(y);
+        let p = exp_series_two(a.remainder, b.remainder);
+        return Two {
+            one: p.one * a.power,
+            two: p.two * b.power,
+        };
+    }
+    Two {
+        one: exp(x),
+        two: exp(y),
+    }
 }
 
 // 2n * (2n + 1), for n = 9 down to 1.
@@ -179,4 +244,15 @@ pub fn bose_einstein(x: f64, temperature: f64) -> f64
     ensures { λ r. ⌜ r ≡ boseEinstein x temperature ⌝ }
 {
     1.0 / (exp(x / temperature) - 1.0)
+}
+
+// The occupations of two frequencies.
+pub fn bose_einstein_two(x: f64, y: f64, temperature: f64) -> Two
+    ensures { λ r. ⌜ (r .one ≡ boseEinstein x temperature) × (r .two ≡ boseEinstein y temperature) ⌝ }
+{
+    let e = exp_two(x / temperature, y / temperature);
+    Two {
+        one: 1.0 / (e.one - 1.0),
+        two: 1.0 / (e.two - 1.0),
+    }
 }
