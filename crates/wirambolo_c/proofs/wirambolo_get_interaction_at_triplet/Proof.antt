@@ -41,14 +41,14 @@ are-tables-read-requires c κs = search needs
 
 returns : tie.Need-returns
 returns c =
-    triplet-unread _ (handed (c .before .before .before .before .before .before .before .before .before .before .before .before)) (rw (sym (c .before .are-tables-read .ensures)) (not-true _ (c .if1 .taken)))
+    triplet-unread _ (handed (c .before .before .before .before .before .before .before .before .before .before .before .before )) (rw (sym (c .before .are-tables-read .ensures)) (not-true _ (c .if1 .taken)))
 
 -- the tests that the call has passed: of the tables, and of the triplet's length
-passed : (c : tie.After-anchoring-of) → (c .before .before .are-tables-read .result ≡ true) × (eqb (length (c .before .before .before .before .before .before .before .before .before .before .before .before .before .args .triplet .now)) 3 ≡ true)
+passed : (c : tie.After-anchoring-of) → (c .before .before .are-tables-read .result ≡ true) × (eqb (length (c .before .before .before .before .before .before .before .before .before .before .before .before .before  .args .triplet .now)) 3 ≡ true)
 passed c = and-both (c .before .before .are-tables-read .result) _ (not-false _ (c .before .if1 .left))
 
 -- the lengths of the mesh and of the q matrix
-lengths : (c : tie.After-anchoring-of) → (length (c .before .before .before .before .before .before .before .before .before .before .before .before .before .args .mesh .now) ≡ 3) × (length (c .before .before .before .before .before .before .before .before .before .before .before .before .before .args .matrix .now) ≡ 9)
+lengths : (c : tie.After-anchoring-of) → (length (c .before .before .before .before .before .before .before .before .before .before .before .before .before  .args .mesh .now) ≡ 3) × (length (c .before .before .before .before .before .before .before .before .before .before .before .before .before  .args .matrix .now) ≡ 9)
 lengths c = grid-lengths _ _ _ _ _ (sym (c .before .before .are-tables-read .ensures) ∙ passed c .0)
 
 anchoring-of-requires : tie.Need-anchoring-of-requires
@@ -83,8 +83,8 @@ same-length-2 c = search needs
 
 returns-2 : tie.Need-returns-2
 returns-2 c =
-    triplet-answered _ (handed (c .before .before .before .before .before .before .before .before .before .before .before .before .before .before .before .before .before .before .before .before .before .before .before .before .before .before)) (rw (sym (c .before .before .before .before .before .before .before .before .before .before .before .before .before .before .before .are-tables-read .ensures)) (not-false _ (c .before .before .before .before .before .before .before .before .before .before .before .before .before .before .if1 .left)))
-    (rw (c .before .before .before .before .before .before .before .before .three2 .ensures, c .before .before .before .before .before .before .before .before .before .nine .ensures, c .before .before .before .before .before .before .before .before .before .before .three .ensures, c .before .before .before .before .before .before .before .before .before .before .before .symmetry-of .ensures, c .before .before .before .before .before .before .before .before .before .before .before .before .form-of .ensures, c .before .before .before .before .before .before .before .before .before .before .before .before .before .anchoring-of .ensures) at (c .before .before .before .before .before .get-interaction-at-triplet .ensures))
+    triplet-answered _ (handed (c .before .before .before .before .before .before .before .before .before .before .before .before .before .before .before .before .before .before .before .before .before .before .before .before .before .before )) (rw (sym (c .before .before .before .before .before .before .before .before .before .before .before .before .before .before .before  .are-tables-read .ensures)) (not-false _ (c .before .before .before .before .before .before .before .before .before .before .before .before .before .before  .if1 .left)))
+    (rw (c .before .before .before .before .before .before .before .before  .three2 .ensures, c .before .before .before .before .before .before .before .before .before  .nine .ensures, c .before .before .before .before .before .before .before .before .before .before  .three .ensures, c .before .before .before .before .before .before .before .before .before .before .before  .symmetry-of .ensures, c .before .before .before .before .before .before .before .before .before .before .before .before  .form-of .ensures, c .before .before .before .before .before .before .before .before .before .before .before .before .before  .anchoring-of .ensures) at (c .before .before .before .before .before  .get-interaction-at-triplet .ensures))
     (c .number-of .ensures)
 
 pub wirambolo-get-interaction-at-triplet-spec : {M : Type 1} → statement M

@@ -36,7 +36,7 @@ is-known-requires c κs = search needs
 
 returns : tie.Need-returns
 returns c =
-    let s = c .before .before .before .before .before .before .before .before in
+    let s = c .before .before .before .before .before .before .before .before  in
     totals-unread _ (handed s) (rw (sym (c .before .is-known .ensures)) (not-true _ (c .if1 .taken)))
 
 weights-of-requires : tie.Need-weights-of-requires
@@ -56,9 +56,9 @@ same-length c = search needs
 
 returns-2 : tie.Need-returns-2
 returns-2 c =
-    let s = c .before .before .before .before .before .before .before .before .before .before .before .before .before .before .before in
-    totals-answered _ (handed s) (rw (sym (c .before .before .before .before .before .before .before .before .is-known .ensures)) (not-false _ (c .before .before .before .before .before .before .before .if1 .left)))
-    (rw (c .before .before .before .before .before .three .ensures, c .before .before .before .before .before .before .weights-of .ensures, toZ-ofZ w64 _ (s .fits .weight)) at (c .before .before .before .imag-self-energy-at-triplet .ensures)) (c .number-of .ensures)
+    let s = c .before .before .before .before .before .before .before .before .before .before .before .before .before .before .before  in
+    totals-answered _ (handed s) (rw (sym (c .before .before .before .before .before .before .before .before  .is-known .ensures)) (not-false _ (c .before .before .before .before .before .before .before  .if1 .left)))
+    (rw (c .before .before .before .before .before  .three .ensures, c .before .before .before .before .before .before  .weights-of .ensures, toZ-ofZ w64 _ (s .fits .weight)) at (c .before .before .before  .imag-self-energy-at-triplet .ensures)) (c .number-of .ensures)
 
 pub wirambolo-imag-self-energy-at-triplet-spec : {M : Type 1} → statement M
 wirambolo-imag-self-energy-at-triplet-spec =
