@@ -1,15 +1,15 @@
 -- Laws of bands, slots and sums: what the loops work out from the bands that they hold is the definition's total.
 use Prim.Native.Nat.{ℕ, _+_, _*_, _<_, _≤_}
-use native.Mathlib.Nat.{mul-le-mul-left, mul-le-mul-right, mul-one, one-mul, eq-or-lt-of-le}
+use native.Mathlib.Nat.{mul-le-mul-right, mul-assoc, one-mul, eq-or-lt-of-le}
 use native.Mathlib.Omega.{arith}
 use mathlib.Core.Path.{_≡_, refl, sym, ap, _∙_}
-use mathlib.Core.Bool.{Bool, true, false, not, _&&_, cond}
+use mathlib.Core.Bool.{Bool, true, false, not, _&&_, cond, true≢false}
 use mathlib.Core.List.{List}
-use mathlib.Core.Logic.{⊎-elim}
+use mathlib.Core.Logic.{_⊎_, ⊎-elim}
 use lib.Dec.{eqb}
 use lib.Ieee.{Float, nan, lt}
 use lib.IntN.{ℤ}
-use lib.ListN.{getD, length, set, length-take, length-drop}
+use lib.ListN.{getD, length, set, length-set, length-take, length-drop}
 use lib.Seq.{getD-set-same, getD-set-other, getD-take, getD-drop, ext-getD}
 use Rattle.phonon.specs.declared.Band.{Band}
 use Rattle.phonon.specs.declared.Weights.{Weights}
@@ -19,43 +19,12 @@ use Rattle.phonon.specs.Funcs.{boseEinstein}
 use Rattle.phonon.specs.Sets.{slot, part}
 use Rattle.phonon.specs.Limits.{entriesOf}
 use Rattle.phonon.specs.ImagSelfEnergy.{Sum, block, placeOf, second1, third2, counted, contribution, slotTerm, total, totals}
-use Rattle.phonon.proofs.Laws.{fold-ext, fold-step, table-ext, table-at, table-length, pair-lt}
+use Rattle.phonon.proofs.Laws.{fold-ext, fold-step, table-ext, table-at, table-length}
 use Rattle.funcs.specs.Occupation.{mark, marked}
 use Rattle.imag_self_energy.specs.declared.Shared.{Shared}
 use Rattle.imag_self_energy.specs.Bands.{bandOf, Held, bandAt, addSlot, slotStep, columnSum, bandTotal, Within, Sized}
 
--- ---- places
-
--- slot (b, j, k) of n bands lies below l, and so do the numbers on the way to it
-pub record SlotIn (n b j k l : ℕ) : Type 0 where
-  pub row : b * n ≤ l
-  pub column : b * n + j ≤ l
-  pub start : (b * n + j) * n ≤ l
-  pub inside : slot n b j k < l
-
-slot-in : (n b j k l : ℕ) → j < n → k < n → (b + 1) * n * n ≤ l → SlotIn n b j k l
-slot-in n b j k l p q h =
-    let o : b < b + 1 = omega arith in
-    let s : slot n b j k < (b + 1) * n * n = pair-lt (pair-lt o p) q in
-    let one : 1 ≤ n = omega arith in
-    let e : b * n + j ≤ (b * n + j) * n = omega (arith, mul-le-mul-left (b * n + j) one, mul-one (b * n + j)) in
-    record { row = omega arith; column = omega arith; start = omega arith; inside = omega arith }
-
--- slot (b, j, k) in each slice that it is read from
-pub record SlotWithin (n c b j k : ℕ) (g : List ℕ) (x y v : List Float) : Type 0 where
-  pub flag : SlotIn n c j k (length g)
-  pub first : SlotIn n c j k (length x)
-  pub second : SlotIn n c j k (length y)
-  pub strength : SlotIn n b j k (length v)
-
-pub slot-within : {n c b j k : ℕ} {g : List ℕ} {x y v : List Float} → j < n → k < n → Within n c b g x y v → SlotWithin n c b j k g x y v
-slot-within {n} {c} {b} {j} {k} p q h =
-    record {
-      flag = slot-in n c j k _ p q (h .flags);
-      first = slot-in n c j k _ p q (h .first);
-      second = slot-in n c j k _ p q (h .second);
-      strength = slot-in n b j k _ p q (h .strengths);
-    }
+-- ---- blocks
 
 -- block w b lies within the entries
 block-in : (w : Weights) (n F b : ℕ) → b < F → (block w b + 1) * n * n ≤ entriesOf w F n
@@ -63,27 +32,38 @@ unfolding block entriesOf
 block-in PerSlot n F b p = mul-le-mul-right n (mul-le-mul-right n (omega arith))
 block-in AtFrequencyPoint n F b p = omega (arith, one-mul n)
 
-pub sized-within : {w : Weights} {n F b : ℕ} {g : List ℕ} {x y v : List Float} (c : ℕ) → c ≡ block w b → b < F → Sized w n F g x y v → Within n c b g x y v
+pub sized-within : {w : Weights} {n F b : ℕ} {g : List ℕ} {x y v : List Float} (c : ℕ) → c ≡ block w b → b < F → Sized w n F g x y v → Within (n * n) c b g x y v
 sized-within {w} {n} {F} {b} c e p h =
-    let i = block-in w n F b p in
+    let i : (block w b + 1) * (n * n) ≤ entriesOf w F n = omega (arith, mul-assoc (block w b + 1) n n, block-in w n F b p) in
     let k : (b + 1) * n * n ≤ F * n * n = mul-le-mul-right n (mul-le-mul-right n (omega arith)) in
     record {
-      few = h .few;
       flags = rw (e, h .flags) i;
       first = rw (e, h .first) i;
       second = rw (e, h .second) i;
-      strengths = rw (h .strengths) k;
+      strengths = rw (h .strengths) (omega (arith, k, mul-assoc (b + 1) n n));
     }
 
 -- ---- the bands of a leg
 
-pub above : (t c f n : Float) → lt c f ≡ true → n ≡ boseEinstein f t → record { frequency = f; occupation = n } ≡ bandOf t c f
-unfolding bandOf marked
-above t c f n p e = rw (p, e) refl
+pub above : (t c f : Float) {n : Float} → lt c f ≡ true → n ≡ boseEinstein f t → n ≡ marked t c f
+unfolding marked
+above t c f p e = e ∙ rw p refl
 
-pub below : (t c f : Float) → lt c f ≡ false → record { frequency = f; occupation = mark } ≡ bandOf t c f
-unfolding bandOf marked
+pub below : (t c f : Float) → lt c f ≡ false → mark ≡ marked t c f
+unfolding marked
 below t c f p = rw p refl
+
+pub band-made : (t c f n : Float) → n ≡ marked t c f → record { frequency = f; occupation = n } ≡ bandOf t c f
+unfolding bandOf
+band-made t c f n e = rw e refl
+
+-- both exceed the cutoff
+pub both-above : (c f g : Float) → (lt c f && lt c g) ≡ true → (lt c f ≡ true) × (lt c g ≡ true)
+both-above c f g e = by (lt c f) (lt c g) e
+  where
+    by : (a b : Bool) → (a && b) ≡ true → (a ≡ true) × (b ≡ true)
+    by true b u = (refl, u)
+    by false b u = absurd (true≢false (sym u))
 
 pub held-none : (t c : Float) (f : ℕ → Float) (l : List Band) → Held t c f 0 l
 held-none t c f l = record { held = λ i h d. absurd (omega arith) }
@@ -119,13 +99,6 @@ turn step z n er ex = er ∙ ap (step n) ex ∙ sym (fold-step n z step)
 pub at-end : {A : Type 0} (step : ℕ → A → A) (z : A) {r : A} (i n : ℕ) → i ≡ n → r ≡ fold i z step → r ≡ fold n z step
 at-end step z i n e h = h ∙ ap (λ (m : ℕ). fold m z step) e
 
--- all k columns are added, of the block that position b reads
-pub whole : (h : Shared) (n c d b k : ℕ) (seconds thirds : List Band) (g : List ℕ) (x y v : List Float) {r : Float} → c ≡ d → k ≡ n
-    → r ≡ fold k f0 (λ i. columnSum h n c b seconds g x y v i (bandAt thirds i)) → r ≡ bandTotal h n d b seconds thirds g x y v
-unfolding bandTotal
-whole h n c d b k seconds thirds g x y v e m p =
-    at-end (λ i. columnSum h n c b seconds g x y v i (bandAt thirds i)) f0 k n m p ∙ ap (λ (z : ℕ). fold n f0 (λ i. columnSum h n z b seconds g x y v i (bandAt thirds i))) e
-
 -- the first n numbers of a list are f 0, .., f (n - 1)
 pub record Filled (l : List Float) (n : ℕ) (f : ℕ → Float) : Type 0 where
   pub filled : (i : ℕ) → i < n → at l i ≡ f i
@@ -141,6 +114,27 @@ filled-step {l} {n} {f} x w h e =
           (λ (q : i < n). getD-set-other l n i x nan (λ (z : i ≡ n). omega arith) ∙ w .filled i q)
           (eq-or-lt-of-le {n = i} {m = n} (omega arith));
     }
+
+-- the last is written again
+pub filled-again : {l : List Float} {n : ℕ} {f : ℕ → Float} (x : Float) → Filled l (n + 1) f → n < length l → x ≡ f n → Filled (set l n x) (n + 1) f
+filled-again {l} {n} {f} x w h e =
+    record {
+      filled = λ i p. ⊎-elim
+          (λ (q : i ≡ n). rw q (getD-set-same l n x nan h ∙ e))
+          (λ (q : i < n). getD-set-other l n i x nan (λ (z : i ≡ n). omega arith) ∙ w .filled i p)
+          (eq-or-lt-of-le {n = i} {m = n} (omega arith));
+    }
+
+-- two turns, or the same one twice
+pub filled-two : {l : List Float} {b e : ℕ} {f : ℕ → Float} (x y : Float) → Filled l b f → b < length l → e < length l → x ≡ f b → y ≡ f e → (e ≡ b) ⊎ (e ≡ b + 1)
+    → Filled (set (set l b x) e y) (e + 1) f
+filled-two {l} {b} {e} {f} x y w h p u v o =
+    let s = length-set l b x in
+    let one = filled-step x w h u in
+    ⊎-elim
+    (λ (q : e ≡ b). rw q (filled-again y one (omega arith) (v ∙ ap f q)))
+    (λ (q : e ≡ b + 1). rw q (filled-step y one (omega arith) (v ∙ ap f q)))
+    o
 
 -- a list that is filled whole is the table
 pub filled-table : {l : List Float} {n : ℕ} {f : ℕ → Float} → length l ≡ n → Filled l n f → l ≡ table n f

@@ -53,13 +53,12 @@ unfoldable pub bandTotal : Shared → ℕ → ℕ → ℕ → List Band → List
 bandTotal h n c b seconds thirds flags first second strengths =
     fold n f0 (λ k. columnSum h n c b seconds flags first second strengths k (bandAt thirds k))
 
--- block c of the flags g and the weights x and y, and block b of the strengths v, of n * n entries each, lie within the slices
-pub record Within (n c b : ℕ) (g : List ℕ) (x y v : List Float) : Type 0 where
-  pub few : n ≤ mostBands
-  pub flags : (c + 1) * n * n ≤ length g
-  pub first : (c + 1) * n * n ≤ length x
-  pub second : (c + 1) * n * n ≤ length y
-  pub strengths : (b + 1) * n * n ≤ length v
+-- block c of the flags g and the weights x and y, and block b of the strengths v, of area entries each, lie within the slices
+pub record Within (area c b : ℕ) (g : List ℕ) (x y v : List Float) : Type 0 where
+  pub flags : (c + 1) * area ≤ length g
+  pub first : (c + 1) * area ≤ length x
+  pub second : (c + 1) * area ≤ length y
+  pub strengths : (b + 1) * area ≤ length v
 
 -- flags g, weights x and y and strengths v have their lengths, of n bands and F first bands, as the weights' form asks
 pub record Sized (w : Weights) (n F : ℕ) (g : List ℕ) (x y v : List Float) : Type 0 where

@@ -1,2 +1,3 @@
 pub mod Bands
+pub mod Lists
 pub mod Check

@@ -7,10 +7,10 @@ use lib.Ieee.{binary64, ofInt}
 use lib.ListN.{length, length-set}
 use mir.ValLaws.{toZ-ofZ}
 use mir.Syntax.{w64}
-use Rattle.phonon.specs.Number.{index, at, int}
-use Rattle.phonon.specs.ImagSelfEnergy.{Sum}
-use Rattle.imag_self_energy.specs.Bands.{mostBands, Held}
-use Rattle.imag_self_energy.proofs.Laws.{part-length, held-none, held-step, held-part, totals-are}
+use Rattle.phonon.specs.Number.{index, at, int, table}
+use Rattle.phonon.specs.ImagSelfEnergy.{Sum, block, totals}
+use Rattle.imag_self_energy.specs.Bands.{mostBands, Held, bandTotal}
+use Rattle.imag_self_energy.proofs.Laws.{part-length, band-made, held-none, held-step, held-part, totals-are}
 use Rattle.imag_self_energy.proofs.write_totals.Statement.{statement}
 use Rattle.imag_self_energy.proofs.write_totals.Tie as tie
 
@@ -76,76 +76,88 @@ leg-frequencies-requires-2 c κs = rw (point2 (c .before)) (c .before .before .b
 loop-holds : tie.Need-loop-holds Inv-loop μ-loop
 loop-holds c = (omega arith, refl, refl, held-none _ _ _ _, held-none _ _ _ _)
 
-mul-band-of : tie.Need-mul-band-of Inv-loop μ-loop
-mul-band-of c = omega (arith, c .before .before .before .before .before .before .before .before .before .before .before .before .before .before .pre .0 .few)
+mul-f : tie.Need-mul-f Inv-loop μ-loop
+mul-f c = omega (arith, c .before .before .before .before .before .before .before .before .before .before .before .before .before .before .pre .0 .few)
 
-shared-slice-read-band-of : tie.Need-shared-slice-read-band-of Inv-loop μ-loop
-shared-slice-read-band-of c = omega (arith, long1 (c .before .before .before))
+shared-slice-read-f : tie.Need-shared-slice-read-f Inv-loop μ-loop
+shared-slice-read-f c = omega (arith, long1 (c .before .before .before))
 
-band-of-requires : tie.Need-band-of-requires Inv-loop μ-loop
-band-of-requires c κs = search needs
+mul-g : tie.Need-mul-g Inv-loop μ-loop
+mul-g c = omega (arith, c .before .before .before .before .before .before .before .before .before .before .before .before .before .before .before .pre .0 .few)
+
+shared-slice-read-g : tie.Need-shared-slice-read-g Inv-loop μ-loop
+shared-slice-read-g c = omega (arith, long2 (c .before .before .before .before))
+
+occupations-requires : tie.Need-occupations-requires Inv-loop μ-loop
+occupations-requires c κs = search needs
 
 mul-seconds : tie.Need-mul-seconds Inv-loop μ-loop
-mul-seconds c = omega (arith, c .before .before .before .before .before .before .before .before .before .before .before .before .before .before .before .before .pre .0 .few)
+mul-seconds c = omega (arith, c .before .before .before .before .before .before .before .before .before .before .before .before .before .before .before .before .before .pre .0 .few)
 
 array-set-from-seconds : tie.Need-array-set-from-seconds Inv-loop μ-loop
-array-set-from-seconds c = omega (arith, c .before .before .before .before .before .before .before .before .before .before .before .before .before .before .before .before .pre .0 .few)
-
-mul-band-of-2 : tie.Need-mul-band-of-2 Inv-loop μ-loop
-mul-band-of-2 c = omega (arith, c .before .before .before .before .before .before .before .before .before .before .before .before .before .before .before .before .pre .0 .few)
-
-shared-slice-read-band-of-2 : tie.Need-shared-slice-read-band-of-2 Inv-loop μ-loop
-shared-slice-read-band-of-2 c = omega (arith, long2 (c .before .before .before .before .before))
-
-band-of-requires-2 : tie.Need-band-of-requires-2 Inv-loop μ-loop
-band-of-requires-2 c κs = search needs
+array-set-from-seconds c = omega (arith, c .before .before .before .before .before .before .before .before .before .before .before .before .before .before .before .before .before .pre .0 .few)
 
 mul-thirds : tie.Need-mul-thirds Inv-loop μ-loop
-mul-thirds c = omega (arith, c .before .before .before .before .before .before .before .before .before .before .before .before .before .before .before .before .before .before .pre .0 .few)
+mul-thirds c = omega (arith, c .before .before .before .before .before .before .before .before .before .before .before .before .before .before .before .before .before .pre .0 .few)
 
 array-set-from-thirds : tie.Need-array-set-from-thirds Inv-loop μ-loop
-array-set-from-thirds c = omega (arith, c .before .before .before .before .before .before .before .before .before .before .before .before .before .before .before .before .before .before .pre .0 .few)
+array-set-from-thirds c = omega (arith, c .before .before .before .before .before .before .before .before .before .before .before .before .before .before .before .before .before .pre .0 .few)
 
 add-j : tie.Need-add-j Inv-loop μ-loop
-add-j c = omega (arith, c .before .before .before .before .before .before .before .before .before .before .before .before .before .before .before .before .before .before .pre .0 .few)
+add-j c = omega (arith, c .before .before .before .before .before .before .before .before .before .before .before .before .before .before .before .before .before .pre .0 .few)
 
 loop-less : tie.Need-loop-less Inv-loop μ-loop
 loop-less c = omega arith
 
 loop-again : tie.Need-loop-again Inv-loop μ-loop
 loop-again c =
-    let l = c .before .before .before .before .before .loop in
-    let few = c .before .before .before .before .before .before .before .before .before .before .before .before .before .before .before .before .before .before .pre .0 .few in
+    let l = c .before .before .before .before .loop in
+    let few = c .before .before .before .before .before .before .before .before .before .before .before .before .before .before .before .before .before .pre .0 .few in
     let p : l .j < length (l .seconds) = omega arith in
-    let q : l .j < length (l .thirds) = omega arith in (
+    let q : l .j < length (l .thirds) = omega arith in
+    let o = c .occupations .ensures in (
       omega arith,
-      length-set (l .seconds) (l .j) (c .before .before .band-of .result) ∙ l .inv .1,
-      length-set (l .thirds) (l .j) (c .band-of2 .result) ∙ l .inv .2,
-      held-step _ (l .inv .3) p (c .before .before .band-of .ensures),
-      held-step _ (l .inv .4) q (c .band-of2 .ensures),
+      simp length-set (l .inv .1),
+      simp length-set (l .inv .2),
+      held-step _ (l .inv .3) p (band-made _ _ _ _ (o .0)),
+      held-step _ (l .inv .4) q (band-made _ _ _ _ (o .1)),
     )
 
 nearest-i64-to-f64-requires : tie.Need-nearest-i64-to-f64-requires Inv-loop μ-loop
 nearest-i64-to-f64-requires c κs = search needs
 
-fill-totals-requires : tie.Need-fill-totals-requires Inv-loop μ-loop
-fill-totals-requires c κs = c .before .before .before .before .before .before .before .before .before .before .before .before .before .before .before .before .pre .0
+fill-few-requires : tie.Need-fill-few-requires Inv-loop μ-loop
+fill-few-requires c κs = (c .before .if1 .taken, c .before .before .before .before .before .before .before .before .before .before .before .before .before .before .before .before .before .pre .0)
+
+fill-many-requires : tie.Need-fill-many-requires Inv-loop μ-loop
+fill-many-requires c κs = c .before .before .before .before .before .before .before .before .before .before .before .before .before .before .before .before .before .pre .0
+
+-- all bands are held, and the weight is cast: the sums are the definition's totals
+all-held : (c : tie.After-nearest-i64-to-f64 Inv-loop μ-loop)
+    → table (length (c .before .before .before .before .before .before .before .before .before .before .before .before .before .before .before .args .totals .now))
+    (λ b. bandTotal (record { temperature = c .before .before .before .before .before .before .before .before .before .before .before .before .before .before .before .args .temperature; cutoff = c .before .before .before .before .before .before .before .before .before .before .before .before .before .before .before .args .cutoff; weight = c .nearest-i64-to-f64 .result }) (c .before .before .before .before .before .before .before .before .before .before .before .before .before .before .before .args .bands) (block (c .before .before .before .before .before .before .before .before .before .before .before .before .before .before .before .args .weights) b) b (c .before .before .loop .seconds) (c .before .before .loop .thirds) (c .before .before .before .before .before .before .before .before .before .before .before .before .before .before .before .args .flags .now) (c .before .before .before .before .before .before .before .before .before .before .before .before .before .before .before .args .first .now) (c .before .before .before .before .before .before .before .before .before .before .before .before .before .before .before .args .second .now) (c .before .before .before .before .before .before .before .before .before .before .before .before .before .before .before .args .strengths .now))
+    ≡ totals (length (c .before .before .before .before .before .before .before .before .before .before .before .before .before .before .before .args .totals .now)) (read (c .before .before .before .before .before .before .before .before .before .before .before .before .before .before .before)) (c .before .before .before .before .before .before .before .before .before .before .before .before .before .before .before .args .temperature) (c .before .before .before .before .before .before .before .before .before .before .before .before .before .before .before .args .strengths .now)
+all-held c =
+    let s = c .before .before .before .before .before .before .before .before .before .before .before .before .before .before .before in
+    let l = c .before .before .loop in
+    let k = c .before .before .before in
+    let all : l .j ≡ s .args .bands = omega arith in
+    totals-are (read s) _ _
+    (held-part _ _ _ (rw (point1 (k .before .before)) at (k .before .leg-frequencies .ensures)) (rw all at (l .inv .3)))
+    (held-part _ _ _ (rw (point2 (k .before .before)) at (k .leg-frequencies2 .ensures)) (rw all at (l .inv .4)))
+    _ _ (c .nearest-i64-to-f64 .ensures ∙ ap (ofInt binary64) (toZ-ofZ w64 _ (s .fits .weight)))
 
 same-length : tie.Need-same-length Inv-loop μ-loop
 same-length c = search needs
 
 returns : tie.Need-returns Inv-loop μ-loop
-returns c =
-    let s = c .before .before .before .before .before .before .before .before .before .before .before .before .before .before .before .before .before .before .before in
-    let l = c .before .before .before .before .before .before .loop in
-    let k = c .before .before .before .before .before .before .before in
-    let all : l .j ≡ s .args .bands = omega arith in
-    let w = c .before .before .before .before .nearest-i64-to-f64 .ensures ∙ ap (ofInt binary64) (toZ-ofZ w64 _ (s .fits .weight)) in
-    c .before .before .fill-totals .ensures
-    ∙ totals-are (read s) _ _
-    (held-part _ _ _ (rw (point1 (k .before .before)) at (k .before .leg-frequencies .ensures)) (rw all at (l .inv .3)))
-    (held-part _ _ _ (rw (point2 (k .before .before)) at (k .leg-frequencies2 .ensures)) (rw all at (l .inv .4)))
-    _ _ w
+returns c = c .before .before .fill-few .ensures ∙ all-held (c .before .before .before .before .before)
+
+same-length-2 : tie.Need-same-length-2 Inv-loop μ-loop
+same-length-2 c = search needs
+
+returns-2 : tie.Need-returns-2 Inv-loop μ-loop
+returns-2 c = c .before .before .fill-many .ensures ∙ all-held (c .before .before .before .before .before)
 
 pub write-totals-spec : {M : Type 1} → statement M
 write-totals-spec =
@@ -160,20 +172,22 @@ write-totals-spec =
     leg-frequencies-requires
     leg-frequencies-requires-2
     loop-holds
-    mul-band-of
-    shared-slice-read-band-of
-    band-of-requires
+    mul-f
+    shared-slice-read-f
+    mul-g
+    shared-slice-read-g
+    occupations-requires
     mul-seconds
     array-set-from-seconds
-    mul-band-of-2
-    shared-slice-read-band-of-2
-    band-of-requires-2
     mul-thirds
     array-set-from-thirds
     add-j
     loop-less
     loop-again
     nearest-i64-to-f64-requires
-    fill-totals-requires
+    fill-few-requires
+    fill-many-requires
     same-length
-    returns)
+    returns
+    same-length-2
+    returns-2)
