@@ -3,3 +3,4 @@ pub mod Laws
 pub mod MeasureLaws
 pub mod HeadingLaws
 pub mod CellU
+pub mod FileLaws

@@ -17,6 +17,7 @@ use Rattle.phonon.specs.Limits.{rowsOf, sizesOf}
 use Rattle.checks.proofs.Laws.{and-left, and-right}
 use Rattle.carton.specs.declared.heading.Places.{Places}
 use Rattle.carton.specs.Heading.{filled, placesWith, placesOf, measuresNatural, wordsMatch}
+use Rattle.carton.specs.Fitted.{Ordered}
 use Rattle.carton.specs.Small.{smallOk}
 
 pub record Small (m : Measures) : Type 0 where
@@ -135,24 +136,6 @@ powers p s h k =
     record { square = square; cube = mul-le-mul square h; six = six; pairs = mul-le-mul six k }
 
 -- ---- places
-
--- the tables stand one behind the other
-pub record Ordered (p : Places) : Type 0 where
-  pub vectors : 25 ≤ p .vectors
-  pub multiplicity : p .vectors ≤ p .multiplicity
-  pub p2s : p .multiplicity ≤ p .p2s
-  pub s2p : p .p2s ≤ p .s2p
-  pub masses : p .s2p ≤ p .masses
-  pub bands : p .masses ≤ p .bands
-  pub frequencies : p .bands ≤ p .frequencies
-  pub eigenvectors : p .frequencies ≤ p .eigenvectors
-  pub shortest : p .eigenvectors ≤ p .shortest
-  pub nonzero : p .shortest ≤ p .nonzero
-  pub flags : p .nonzero ≤ p .flags
-  pub constants : p .flags ≤ p .constants
-  pub first : p .constants ≤ p .first
-  pub second : p .first ≤ p .second
-  pub end : p .second ≤ p .end
 
 pub ordered : (m : Measures) (form : Form) (p : Places) → p ≡ placesOf m form → Ordered p
 unfolding placesWith

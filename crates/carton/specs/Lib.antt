@@ -3,4 +3,6 @@ pub mod Words
 pub mod Heading
 pub mod Tables
 pub mod Small
+pub mod Fitted
+pub mod File
 pub mod Seal
