@@ -1,4 +1,4 @@
 -- The laws that belong to no one function.
 pub mod PlaceLaws
-pub mod DoorLaws
+pub mod AcceptedLaws
 pub mod TextLaws

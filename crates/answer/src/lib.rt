@@ -1,9 +1,7 @@
 // What `key` prints for any file: the carton is read, worked by the joined door, and put down as text.
-mod door;
-
 use carton::Heading;
 use carton::Read;
-use door::run_door;
+use carton_door::run_door;
 use phonon::Answer;
 ghost use mathlib.Core.Path.{_≡_};
 ghost use mathlib.Core.Bool.{true};

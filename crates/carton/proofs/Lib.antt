@@ -2,5 +2,4 @@
 pub mod Laws
 pub mod MeasureLaws
 pub mod HeadingLaws
-pub mod CellU
 pub mod FileLaws

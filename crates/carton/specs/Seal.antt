@@ -1,7 +1,7 @@
 -- How a carton is written: words into sealed blocks. Key case U is given as such a file.
 use Prim.Native.Nat.{ℕ, zero, suc, _+_, _/_, _%_}
 use mathlib.Core.List.{List, [], _∷_, _++_}
-use lib.ListN.{take, drop, replicate}
+use lib.ListN.{take, drop, replicate, set}
 use Rattle.carton.specs.Blocks.{checkOf}
 
 -- numbers of four and of eight bytes, little-endian
@@ -48,3 +48,7 @@ wordsU flags =
 
 abbrev pub fileU : List ℕ → List ℕ
 fileU flags = seal 3 0 (wordsU flags)
+
+-- every slot flagged but (0, 1, 2), as document 01 prints it
+abbrev pub flagsU : List ℕ
+flagsU = set (replicate 27 1) 5 0

@@ -3,7 +3,7 @@ use mathlib.Core.Path.{_∙_}
 use Rattle.phonon.specs.Sets.{slots}
 use native.Mathlib.Omega.{arith}
 use Rattle.answer.proofs.PlaceLaws.{zeros-length, flags-long}
-use Rattle.answer.proofs.DoorLaws.{three-atoms, few}
+use Rattle.answer.proofs.AcceptedLaws.{three-atoms, few}
 use Rattle.answer.proofs.TextLaws.{text-accepted, text-refused}
 use Rattle.text.proofs.Laws.{wrote-same}
 use native.Mathlib.Omega.{arith}

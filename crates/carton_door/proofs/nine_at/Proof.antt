@@ -5,8 +5,8 @@ use mir.Syntax.{w64}
 use mir.ValLaws.{toZ-ofZ}
 use borrow.Author.Needs.{needs, sfits-of}
 use Rattle.phonon.specs.Number.{int}
-use Rattle.answer.proofs.door.nine_at.Statement.{statement}
-use Rattle.answer.proofs.door.nine_at.Tie as tie
+use Rattle.carton_door.proofs.nine_at.Statement.{statement}
+use Rattle.carton_door.proofs.nine_at.Tie as tie
 
 mul-t3 : tie.Need-mul-t3
 mul-t3 c = search needs
