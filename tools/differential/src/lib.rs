@@ -14,5 +14,6 @@ pub mod library;
 pub mod numbers;
 pub mod phases;
 pub mod random;
+pub mod replay;
 pub mod tables;
 pub mod tally;

@@ -1,5 +1,6 @@
 //! Usage: differential [--only INDEX] [--trace] SEED N [triplet | list | totals | joined | key ...]
 //!        differential --faults SEED N
+//!        differential --replay FOLDER SEED N
 
 use differential::call::{Call, Door};
 use differential::cartons::{self, CartonKind};
@@ -7,6 +8,7 @@ use differential::compare::{difference, expected, work};
 use differential::doors::{Doors, ORACLE};
 use differential::generate;
 use differential::key;
+use differential::replay;
 use differential::tally::Tally;
 use std::cell::Cell;
 use std::io::Write;
@@ -14,7 +16,8 @@ use std::process::ExitCode;
 use std::time::{Duration, Instant};
 
 const USAGE: &str = "usage: differential [--only INDEX] [--trace] SEED N [triplet | list | totals | joined | key ...]
-       differential --faults SEED N";
+       differential --faults SEED N
+       differential --replay FOLDER SEED N";
 
 /// After so many mismatches of a door the rest are counted and not printed.
 const PRINTED: u64 = 20;
@@ -22,6 +25,7 @@ const PRINTED: u64 = 20;
 #[derive(Default)]
 struct Wanted {
     faults: bool,
+    replay: Option<String>,
     only: Option<u64>,
     trace: bool,
     seed: u64,
@@ -36,6 +40,7 @@ fn wanted(mut args: impl Iterator<Item = String>) -> Option<Wanted> {
     while let Some(arg) = args.next() {
         match arg.as_str() {
             "--faults" => wanted.faults = true,
+            "--replay" => wanted.replay = Some(args.next()?),
             "--trace" => wanted.trace = true,
             "--only" => wanted.only = Some(args.next()?.parse().ok()?),
             "key" => wanted.key = true,
@@ -90,6 +95,9 @@ fn main() -> ExitCode {
     if wanted.faults {
         return hunt_faults(&wanted);
     }
+    if let Some(folder) = &wanted.replay {
+        return write_replay(folder, &wanted);
+    }
     let mut compared = 0;
     let mut mismatches = 0;
     if !wanted.doors.is_empty() {
@@ -105,6 +113,20 @@ fn main() -> ExitCode {
     }
     println!("compared {compared}, mismatches {mismatches}");
     ExitCode::from(u8::from(mismatches > 0))
+}
+
+/// Writes the files `stdin` and `stdout` of the program `key_replay`.
+fn write_replay(folder: &str, wanted: &Wanted) -> ExitCode {
+    let stream = replay::stream(wanted.seed, wanted.sets as usize);
+    let written = std::fs::write(format!("{folder}/stdin"), &stream.cartons)
+        .and_then(|()| std::fs::write(format!("{folder}/stdout"), &stream.texts));
+    match written {
+        Ok(()) => ExitCode::SUCCESS,
+        Err(e) => {
+            eprintln!("{folder}: {e}");
+            ExitCode::from(2)
+        }
+    }
 }
 
 #[cfg(feature = "library")]

@@ -1,0 +1,68 @@
+-- The three columns are those of the words.
+use Rattle.answer.proofs.PlaceLaws.{fitted-same, floats-length, ints-length, bytes-length}
+use Rattle.answer.proofs.TextLaws.{columns-same}
+use Rattle.text.proofs.Laws.{wrote-same}
+use mathlib.Core.Path.{sym, _∙_}
+use borrow.Author.Needs.{needs}
+use Rattle.answer.proofs.words_text.Statement.{statement}
+use Rattle.answer.proofs.words_text.Tie as tie
+
+read-floats-requires : tie.Need-read-floats-requires
+read-floats-requires c κs = search needs
+
+read-ints-requires : tie.Need-read-ints-requires
+read-ints-requires c κs = search needs
+
+read-bytes-requires : tie.Need-read-bytes-requires
+read-bytes-requires c κs = search needs
+
+set-text-requires : tie.Need-set-text-requires
+set-text-requires c κs =
+    let q = c .before .before .before .before .before .before .before .before .before .before .before .before .before .before .before .before .before .before .before .before .before .before .before .before .before .pre in
+    let floats = floats-length _ _ (c .before .before .before .before .before .before .before .before .before .before .before .before .before .before .before .before .read-floats .ensures) in
+    let ints = ints-length _ _ (c .before .before .before .before .before .before .before .before .before .before .before .before .read-ints .ensures) in
+    let bytes = bytes-length _ _ (c .before .before .before .before .before .before .before .before .before .read-bytes .ensures) in
+    (fitted-same _ _ _ floats (q .0), ints ∙ sym floats, bytes ∙ sym floats, q .4, q .5, q .6, q .7)
+
+same-length : tie.Need-same-length
+same-length c = search needs
+
+same-length-2 : tie.Need-same-length-2
+same-length-2 c = search needs
+
+same-length-3 : tie.Need-same-length-3
+same-length-3 c = search needs
+
+same-length-4 : tie.Need-same-length-4
+same-length-4 c = search needs
+
+same-length-5 : tie.Need-same-length-5
+same-length-5 c = search needs
+
+same-length-6 : tie.Need-same-length-6
+same-length-6 c = search needs
+
+same-length-7 : tie.Need-same-length-7
+same-length-7 c = search needs
+
+returns : tie.Need-returns
+returns c =
+    wrote-same (columns-same _ _ _ _ _ (c .before .before .before .before .before .before .before .before .before .before .before .before .before .before .before .before .before .before .before .before .before .before .before .before .before .read-floats .ensures) (c .before .before .before .before .before .before .before .before .before .before .before .before .before .before .before .before .before .before .before .before .before .read-ints .ensures) (c .before .before .before .before .before .before .before .before .before .before .before .before .before .before .before .before .before .before .read-bytes .ensures))
+    (c .before .before .before .before .before .before .before .before .set-text .ensures)
+
+pub words-text-spec : {M : Type 1} → statement M
+words-text-spec =
+    tie.close
+    (tie.spec
+    read-floats-requires
+    read-ints-requires
+    read-bytes-requires
+    set-text-requires
+    same-length
+    same-length-2
+    same-length-3
+    same-length-4
+    same-length-5
+    same-length-6
+    same-length-7
+    returns)

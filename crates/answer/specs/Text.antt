@@ -1,0 +1,40 @@
+-- What `key` prints for the bytes of any file.
+use Prim.Native.Nat.{ℕ, zero, suc}
+use mathlib.Core.List.{List}
+use lib.Ieee.{Float}
+use lib.ListN.{replicate}
+use Rattle.phonon.specs.declared.Answer.{Answer}
+use Rattle.phonon.specs.declared.Answer.the-variants.{Accepted, Refused}
+use Rattle.phonon.specs.Number.{f0}
+use Rattle.phonon.specs.Sets.{bandsOf, slots, JoinedSet}
+use Rattle.phonon.specs.Doors.{JoinedOutcome, joinedOutcome}
+use Rattle.carton.specs.declared.heading.Heading.{Heading}
+use Rattle.carton.specs.Words.{wordsOf}
+use Rattle.carton.specs.Heading.{headingIn}
+use Rattle.carton.specs.Tables.{Columns, columnsOf, setIn}
+use Rattle.carton.specs.File.{fileRefusal}
+use Rattle.text.specs.Lines.{refusedLine, acceptedText}
+
+abbrev pub zeros : ℕ → List Float
+zeros n = replicate n f0
+
+-- a carton's set: strengths and totals start at 0.0, and so do the 6,144 numbers of the work buffer
+unfoldable pub startOf : Columns → Heading → JoinedSet
+startOf w h = setIn w h (zeros (slots (h .measures))) (zeros (h .measures .first)) (zeros 6144)
+
+-- what the joined door left of a set, as text
+unfoldable pub outcomeText : Answer → JoinedSet → JoinedOutcome → List ℕ
+outcomeText Accepted s o = acceptedText (s .tables .measures .first) (bandsOf (s .tables .measures)) (s .flags) (o .strengths) (o .totals)
+outcomeText (Refused n) s o = refusedLine n
+
+unfoldable pub setText : JoinedSet → List ℕ
+setText s = outcomeText (joinedOutcome s .answer) s (joinedOutcome s)
+
+-- the text of a file that is refused with n, or read
+unfoldable pub fileText : ℕ → List ℕ → List ℕ
+fileText zero s = setText (startOf (columnsOf (wordsOf s)) (headingIn (wordsOf s)))
+fileText (suc n) s = refusedLine (suc n)
+
+-- the text of any file: 10, 11 and 12 come before the door
+unfoldable pub answerText : List ℕ → List ℕ
+answerText s = fileText (fileRefusal s) s

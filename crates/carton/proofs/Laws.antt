@@ -1,0 +1,62 @@
+-- Laws of tables that are written from their start, and of two's complement.
+use Prim.Native.Nat.{ℕ, zero, suc, _+_, _-_, _≤_, _<_}
+use mathlib.Core.Bool.{true, false}
+use mathlib.Core.Path.{_≡_, refl, sym, _∙_, ap}
+use mathlib.Core.List.{List}
+use native.Mathlib.Numerals.{add-one}
+use native.Mathlib.Omega.{arith}
+use lib.ListN.{length, take, set}
+use lib.Seq.{take-suc-set, take-all}
+use lib.IntN.{ℤ, pos, negsuc, _-ℤ_}
+use mir.Val.{toZ, ofZ, SFits}
+use mir.ValLaws.{toZ-ofZ}
+use mir.Syntax.{w64}
+use borrow.Author.Tests.{lt-ltb, le-ltb}
+use lib.Ieee.{Float, nan, inf, fin, isNan, binary64, ofBits, nanBits}
+use lib.Ieee.Bits.{nanBits-is}
+use Rattle.phonon.specs.Number.{table}
+use Rattle.phonon.proofs.Laws.{table-snoc}
+use Rattle.carton.specs.Words.{intOf}
+
+module _ {A : Type 0} (f : ℕ → A) where
+  -- one entry more
+  pub table-more : (l : List A) (i : ℕ) (x : A) → i < length l → take i l ≡ table i f → x ≡ f i → take (i + 1) (set l i x) ≡ table (i + 1) f
+  table-more l i x h e v = rw table-snoc (rw (add-one, take-suc-set l i x h, e, v) refl)
+
+  -- the whole table
+  pub table-whole : (l : List A) (n i : ℕ) → length l ≡ n → n ≤ i → i ≤ n → take i l ≡ table i f → l ≡ table n f
+  table-whole l n i e h k t =
+      let same : i ≡ n = omega arith in
+      sym (take-all n l (omega arith)) ∙ rw same at t
+
+-- ---- floats
+
+is-nan : (x : Float) → isNan x ≡ true → nan ≡ x
+unfolding isNan
+is-nan nan e = refl
+is-nan (inf s) e = absurd (let z : _≡_ {A = ℕ} 0 1 = cc in omega arith)
+is-nan (fin s m d) e = absurd (let z : _≡_ {A = ℕ} 0 1 = cc in omega arith)
+
+pub nan-pattern : (w : ℕ) → nanBits binary64 w ≡ true → nan ≡ ofBits binary64 w
+nan-pattern w e = is-nan (ofBits binary64 w) (sym (nanBits-is binary64 w) ∙ e)
+
+-- ---- two's complement
+
+to-small : (n : ℕ) → n < 9223372036854775808 → toZ w64 n ≡ pos n
+to-small n h = rw (lt-ltb n 9223372036854775808 h) refl
+
+minus-one-less : (n : ℕ) → negsuc 0 -ℤ pos n ≡ negsuc n
+minus-one-less zero = refl
+minus-one-less (suc n) = ap negsuc (omega arith)
+
+-- a word of a negative integer
+module _ (w : ℕ) (h : 9223372036854775808 ≤ w) (k : w < 18446744073709551616) where
+  int-below : negsuc 0 -ℤ toZ w64 (18446744073709551615 - w) ≡ negsuc (18446744073709551615 - w)
+  int-below = rw (to-small (18446744073709551615 - w) (omega arith)) (minus-one-less (18446744073709551615 - w))
+
+  pub int-fits : SFits w64 (negsuc 0 -ℤ toZ w64 (18446744073709551615 - w))
+  int-fits = rw int-below (record { sfits = omega arith })
+
+  pub int-is : toZ w64 (ofZ w64 (negsuc 0 -ℤ toZ w64 (18446744073709551615 - w))) ≡ intOf w
+  unfolding intOf
+  int-is = toZ-ofZ w64 _ int-fits ∙ int-below ∙ rw (le-ltb w 9223372036854775808 h) refl

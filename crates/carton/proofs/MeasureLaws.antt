@@ -1,0 +1,191 @@
+-- Measures of at most 6,048: no product and no sum of theirs wraps. A larger measure does not match the words of any file.
+use Prim.Native.Nat.{ℕ, _+_, _*_, _/_, _≤_, _<_}
+use mathlib.Core.Bool.{true, false, _&&_}
+use mathlib.Core.List.{List}
+use mathlib.Core.Path.{_≡_, refl, sym, _∙_}
+use lib.Dec.{leb, eqb}
+use lib.ListN.{length}
+use borrow.Author.Tests.{leb-true, le-leb, lt-ltb, ne-eqb}
+use native.Mathlib.Decide.{decLe}
+use native.Mathlib.Nat.{mul-le-mul}
+use native.Mathlib.Omega.{arith}
+use Rattle.phonon.specs.declared.Measures.{Measures}
+use Rattle.phonon.specs.declared.Sizes.{Sizes}
+use Rattle.phonon.specs.declared.Form.{Form}
+use Rattle.phonon.specs.declared.Form.the-variants.{Compact, Full}
+use Rattle.phonon.specs.Limits.{rowsOf, sizesOf}
+use Rattle.checks.proofs.Laws.{and-left, and-right}
+use Rattle.carton.specs.declared.heading.Places.{Places}
+use Rattle.carton.specs.Heading.{filled, placesWith, placesOf, measuresNatural, wordsMatch}
+use Rattle.carton.specs.Fitted.{Ordered}
+use Rattle.carton.specs.Small.{smallOk}
+
+pub record Small (m : Measures) : Type 0 where
+  pub atoms : m .atoms ≤ 6048
+  pub supercell : m .supercell ≤ 6048
+  pub first : m .first ≤ 6048
+  pub grid : m .grid ≤ 6048
+  pub vectors : m .vectors ≤ 6048
+
+pub small : (m : Measures) → smallOk m ≡ true → Small m
+unfolding smallOk
+small m e =
+    let p = leb (m .atoms) 6048 in
+    let s = leb (m .supercell) 6048 in
+    let f = leb (m .first) 6048 in
+    let g = leb (m .grid) 6048 in
+    let v = leb (m .vectors) 6048 in
+    let d = and-left (((p && s) && f) && g) v e in
+    let c = and-left ((p && s) && f) g d in
+    let b = and-left (p && s) f c in
+    record {
+      atoms = leb-true _ _ (and-left p s b);
+      supercell = leb-true _ _ (and-right p s b);
+      first = leb-true _ _ (and-right (p && s) f c);
+      grid = leb-true _ _ (and-right ((p && s) && f) g d);
+      vectors = leb-true _ _ (and-right (((p && s) && f) && g) v e);
+    }
+
+is-small : (m : Measures) → Small m → smallOk m ≡ true
+unfolding smallOk
+is-small m h =
+    rw (le-leb _ _ (h .atoms), le-leb _ _ (h .supercell), le-leb _ _ (h .first), le-leb _ _ (h .grid), le-leb _ _ (h .vectors)) refl
+
+pub rows-small : (m : Measures) (form : Form) → Small m → rowsOf form m ≤ 6048
+unfolding rowsOf
+rows-small m Compact h = h .atoms
+rows-small m Full h = h .supercell
+
+-- ---- products, of P, S, F, G and the rows of the force constants
+
+pub record Products (p s f g r : ℕ) : Type 0 where
+  pub bands : 3 * p ≤ 18144
+  pub frequencies : g * (3 * p) ≤ 6048 * 18144
+  pub eigenvectors : g * (3 * p) * (3 * p) ≤ 6048 * 18144 * 18144
+  pub entries : s * p ≤ 6048 * 6048
+  pub atom-pairs : p * s ≤ 6048 * 6048
+  pub shortest : p * s * s ≤ 6048 * 6048 * 6048
+  pub row-pairs : r * s ≤ 6048 * 6048
+  pub nonzero : r * s * s ≤ 6048 * 6048 * 6048
+  pub row : f * (3 * p) ≤ 6048 * 18144
+  pub slots : f * (3 * p) * (3 * p) ≤ 6048 * 18144 * 18144
+
+pub products : (m : Measures) (r : ℕ) → Small m → r ≤ 6048 → Products (m .atoms) (m .supercell) (m .first) (m .grid) r
+products m r h k =
+    let bands : 3 * m .atoms ≤ 18144 = omega arith in
+    let frequencies = mul-le-mul (h .grid) bands in
+    let atom-pairs = mul-le-mul (h .atoms) (h .supercell) in
+    let row-pairs = mul-le-mul k (h .supercell) in
+    let row = mul-le-mul (h .first) bands in
+    record {
+      bands = bands;
+      frequencies = frequencies;
+      eigenvectors = mul-le-mul frequencies bands;
+      entries = mul-le-mul (h .supercell) (h .atoms);
+      atom-pairs = atom-pairs;
+      shortest = mul-le-mul atom-pairs (h .supercell);
+      row-pairs = row-pairs;
+      nonzero = mul-le-mul row-pairs (h .supercell);
+      row = row;
+      slots = mul-le-mul row bands;
+    }
+
+-- what the places are summed up of
+pub record Sized (m : Measures) (z : Sizes) : Type 0 where
+  pub measures : Small m
+  pub addresses : z .addresses ≤ 1000000
+  pub vectors : z .vectors ≤ 1000000
+  pub multiplicity : z .multiplicity ≤ 1000000000000
+  pub frequencies : z .frequencies ≤ 1000000000000
+  pub eigenvectors : z .eigenvectors ≤ 10000000000000
+  pub shortest : z .shortest ≤ 1000000000000
+  pub nonzero : z .nonzero ≤ 1000000000000
+  pub slots : z .slots ≤ 10000000000000
+  pub constants : z .constants ≤ 10000000000000
+
+pub sized : (m : Measures) (form : Form) (z : Sizes) → smallOk m ≡ true → z ≡ sizesOf m form → Sized m z
+unfolding sizesOf
+sized m form z e q =
+    let h = small m e in
+    let b = products m (rowsOf form m) h (rows-small m form h) in
+    rw q
+    (record {
+      measures = h;
+      addresses = omega arith;
+      vectors = omega arith;
+      multiplicity = omega arith;
+      frequencies = omega arith;
+      eigenvectors = omega arith;
+      shortest = omega arith;
+      nonzero = omega arith;
+      slots = omega arith;
+      constants = omega arith;
+    })
+
+-- of the work buffer's length
+pub record Powers (p s : ℕ) : Type 0 where
+  pub square : p * p ≤ 6048 * 6048
+  pub cube : p * p * p ≤ 6048 * 6048 * 6048
+  pub six : 6 * p ≤ 36288
+  pub pairs : 6 * p * s ≤ 36288 * 6048
+
+pub powers : (p s : ℕ) → p ≤ 6048 → s ≤ 6048 → Powers p s
+powers p s h k =
+    let square = mul-le-mul h h in
+    let six : 6 * p ≤ 36288 = omega arith in
+    record { square = square; cube = mul-le-mul square h; six = six; pairs = mul-le-mul six k }
+
+-- ---- places
+
+pub ordered : (m : Measures) (form : Form) (p : Places) → p ≡ placesOf m form → Ordered p
+unfolding placesWith
+ordered m form p e =
+    rw e
+    (record {
+      vectors = omega arith;
+      multiplicity = omega arith;
+      p2s = omega arith;
+      s2p = omega arith;
+      masses = omega arith;
+      bands = omega arith;
+      frequencies = omega arith;
+      eigenvectors = omega arith;
+      shortest = omega arith;
+      nonzero = omega arith;
+      flags = omega arith;
+      constants = omega arith;
+      first = omega arith;
+      second = omega arith;
+      end = omega arith;
+    })
+
+-- each measure has a table at least as long
+pub measures-before : (m : Measures) (form : Form) → placesOf m form .end ≤ 6048 → Small m
+unfolding placesWith sizesOf
+measures-before m form h =
+    record { atoms = omega arith; supercell = omega arith; first = omega arith; grid = omega arith; vectors = omega arith }
+
+-- more words than there are
+pub too-few : (n end : ℕ) → n < end → eqb n (filled end) ≡ false
+too-few n end h = ne-eqb _ _ (λ (e : n ≡ filled end). omega arith)
+
+pub not-small : (ws : List ℕ) (m : Measures) (form : Form) → length ws ≤ 6048 → smallOk m ≡ false → wordsMatch ws m (placesOf m form) ≡ false
+unfolding wordsMatch
+not-small ws m form h e = go (decLe (placesOf m form .end) 6048)
+  where
+    go : Dec (placesOf m form .end ≤ 6048) → wordsMatch ws m (placesOf m form) ≡ false
+    go (yes k) = absurd (let z : true ≡ false = sym (is-small m (measures-before m form k)) ∙ e in let y : _≡_ {A = ℕ} 0 1 = cc in omega arith)
+    go (no k) = rw (too-few (length ws) (placesOf m form .end) (omega arith)) refl
+
+pub naturals : (m : Measures) → smallOk m ≡ true → measuresNatural m ≡ true
+unfolding measuresNatural
+naturals m e =
+    let h = small m e in
+    rw (
+      lt-ltb (m .atoms) 9223372036854775808 (omega arith),
+      lt-ltb (m .supercell) 9223372036854775808 (omega arith),
+      lt-ltb (m .first) 9223372036854775808 (omega arith),
+      lt-ltb (m .grid) 9223372036854775808 (omega arith),
+      lt-ltb (m .vectors) 9223372036854775808 (omega arith),
+    )
+    refl

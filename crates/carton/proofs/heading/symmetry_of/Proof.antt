@@ -1,0 +1,17 @@
+-- The bit picks the case.
+use mathlib.Core.Path.{refl}
+use borrow.Author.Tests.{eq-eqb, ne-eqb}
+use Rattle.carton.specs.Heading.{symmetryOf}
+use Rattle.carton.proofs.heading.symmetry_of.Statement.{statement}
+use Rattle.carton.proofs.heading.symmetry_of.Tie as tie
+
+returns : tie.Need-returns
+unfolding symmetryOf
+returns c = rw (eq-eqb _ _ (c .if1 .taken)) refl
+
+returns-2 : tie.Need-returns-2
+unfolding symmetryOf
+returns-2 c = rw (ne-eqb _ _ (c .if1 .left)) refl
+
+pub symmetry-of-spec : {M : Type 1} → statement M
+symmetry-of-spec = tie.close (tie.spec returns returns-2)

@@ -1,0 +1,8 @@
+pub mod Blocks
+pub mod Words
+pub mod Heading
+pub mod Tables
+pub mod Small
+pub mod Fitted
+pub mod File
+pub mod Seal

@@ -1,0 +1,2 @@
+-- The case that document 01 prints.
+pub mod CellU
