@@ -16,7 +16,7 @@ use phonon::Weights;
 ghost use mathlib.Core.Path.{_≡_};
 ghost use mathlib.Core.Bool.{true};
 ghost use mathlib.Core.List.{_∷_, _++_};
-ghost use Prim.Native.Nat.{_-_, _+_, _*_, _<_, _≤_};
+ghost use Prim.Native.Nat.{_+_, _-_, _≤_};
 ghost use lib.ListN.{length, getD, replicate};
 ghost use lib.Seq.{paste};
 ghost use lib.Ieee.{binary64, toBits};
@@ -51,7 +51,8 @@ struct Case {
     totals: [f64; 3],
 }
 
-// Case Mn. Slot (0, 1, 2) is number 5.
+// Case Mn: set and result are those of the definitions' table, which has also the totals that document 01 leaves out. Slot
+// (0, 1, 2) is number 5.
 fn case_of(n: usize) -> Case
     requires { ⌜ (1 ≤ n) × (n ≤ 11) ⌝ }
     ensures { λ r. ⌜ Cells.Sized r × (Cells.keyCaseOf r ≡ getD keyCases (n - 1) M1) ⌝ }
@@ -94,11 +95,11 @@ fn case_of(n: usize) -> Case
             c.flags[32] = 1;
             c.symmetrized = true;
             c.strengths[5] = 0.0;
-            c.strengths[7] = SIXTH;
-            c.strengths[11] = SIXTH;
-            c.strengths[15] = SIXTH;
-            c.strengths[19] = SIXTH;
-            c.strengths[21] = SIXTH;
+            c.strengths[7] = TWELFTH;
+            c.strengths[11] = TWELFTH;
+            c.strengths[15] = TWELFTH;
+            c.strengths[19] = TWELFTH;
+            c.strengths[21] = TWELFTH;
             c.totals = [0.5, 1.0, 1.0];
         }
         6 => {
@@ -137,7 +138,7 @@ fn case_of(n: usize) -> Case
 }
 
 // 0.5 / 6 rounded: the bits are 3fb5555555555555.
-const SIXTH: f64 = 0.08333333333333333;
+const TWELFTH: f64 = 0.08333333333333333;
 
 // ---- the doors
 
