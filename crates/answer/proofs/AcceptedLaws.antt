@@ -1,17 +1,16 @@
 -- What an accepted carton tells of its measures.
-use Prim.Native.Nat.{ℕ, zero, suc, _+_, _*_, _≤_}
+use Prim.Native.Nat.{ℕ, zero, suc, _*_, _≤_}
 use mathlib.Core.Path.{_≡_, refl, sym, _∙_, ap}
 use mathlib.Core.List.{List}
 use native.Mathlib.Decide.{decLe}
 use native.Mathlib.Nat.{mul-le-mul}
 use native.Mathlib.Omega.{arith}
 use lib.Ieee.{Float}
-use Rattle.phonon.specs.declared.Answer.{Answer}
-use Rattle.phonon.specs.declared.Answer.the-variants.{Accepted, Refused}
+use Rattle.phonon.specs.declared.Answer.the-variants.{Accepted}
 use Rattle.phonon.specs.Sets.{JoinedSet, bandsOf}
 use Rattle.phonon.specs.Limits.{workLength}
 use Rattle.phonon.specs.Refusal.{joinedRefusal}
-use Rattle.phonon.specs.Doors.{JoinedOutcome, answerFor, joinedWith, joinedLeaves, joinedOutcome}
+use Rattle.phonon.specs.Doors.{JoinedOutcome, answerFor, joinedLeaves, joinedOutcome}
 use Rattle.phonon.proofs.Accepted.{Measured, measured-facts, passed}
 use Rattle.carton.specs.declared.heading.Heading.{Heading}
 use Rattle.carton.specs.Fitted.{Fitted}

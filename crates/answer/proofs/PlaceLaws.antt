@@ -5,7 +5,7 @@ use mathlib.Core.List.{List, _∷_}
 use native.Mathlib.Omega.{arith}
 use lib.Ieee.{Float}
 use lib.IntN.{ℤ}
-use lib.ListN.{length, take, drop, replicate, length-replicate, length-drop}
+use lib.ListN.{length, take, drop, length-replicate, length-drop}
 use lib.Seq.{length-take-le}
 use Rattle.phonon.specs.Number.{f0}
 use Rattle.phonon.specs.Sets.{slots}
@@ -20,7 +20,7 @@ use Rattle.answer.specs.Text.{zeros}
 pub fitted-same : (h : Heading) (n m : ℕ) → m ≡ n → Fitted h n → Fitted h m
 fitted-same h n m e f = rw e f
 
-pub slice-length : {A : Type 0} (a e : ℕ) (l : List A) → e ≤ length l → length (slice a e l) ≡ e - a
+slice-length : {A : Type 0} (a e : ℕ) (l : List A) → e ≤ length l → length (slice a e l) ≡ e - a
 slice-length a e l h = length-take-le (e - a) (drop a l) (let d = length-drop a l in omega arith)
 
 pub flags-long : (h : Heading) (n : ℕ) (l : List ℕ) → Fitted h n → length l ≡ n → slots (h .measures) ≤ length (slice (h .places .flags) (h .places .constants) l)

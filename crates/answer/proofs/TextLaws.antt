@@ -6,8 +6,7 @@ use mathlib.Core.List.{List}
 use native.Mathlib.Omega.{arith}
 use lib.Ieee.{Float}
 use lib.IntN.{ℤ}
-use lib.ListN.{length, take, length-take}
-use Rattle.phonon.specs.declared.Answer.{Answer}
+use lib.ListN.{length, length-take}
 use Rattle.phonon.specs.declared.Answer.the-variants.{Accepted, Refused}
 use Rattle.phonon.specs.Sets.{JoinedSet, bandsOf, slots}
 use Rattle.phonon.specs.Doors.{JoinedOutcome, joinedOutcome}
@@ -16,9 +15,8 @@ use Rattle.carton.specs.declared.heading.Read.{Read}
 use Rattle.carton.specs.declared.heading.Read.the-variants.{Good, Wrong}
 use Rattle.carton.specs.Blocks.{sizeOk, blocksOk}
 use Rattle.carton.specs.Words.{wordsOf, floatsOf, intsOf, bytesOf}
-use Rattle.carton.specs.Heading.{slice, headingOk, headingIn, readOf}
+use Rattle.carton.specs.Heading.{slice, readOf}
 use Rattle.carton.specs.Tables.{Columns, columnsOf, setIn}
-use Rattle.carton.specs.File.{fileRefusal}
 use Rattle.carton.proofs.FileLaws.{file-10, file-11, file-12, file-read}
 use Rattle.carton.proofs.HeadingLaws.{read-good, read-wrong}
 use Rattle.io.specs.Counts.{Counts}

@@ -1,6 +1,6 @@
 -- What the tests of a file tell: its refusal, and how many words it has.
 use Prim.Native.Nat.{ℕ, _*_, _/_, _%_, _≤_}
-use mathlib.Core.Bool.{Bool, true, false, _&&_}
+use mathlib.Core.Bool.{true, false, _&&_}
 use mathlib.Core.List.{List}
 use mathlib.Core.Path.{_≡_, refl}
 use native.Mathlib.Omega.{arith}
@@ -8,7 +8,6 @@ use lib.Dec.{leb, eqb}
 use lib.ListN.{length}
 use borrow.Author.Tests.{leb-true, eqb-true}
 use Rattle.phonon.specs.Refusal.{firstFailed}
-use Rattle.phonon.proofs.Laws.{table-length}
 use Rattle.checks.proofs.Laws.{and-left, and-right}
 use Rattle.carton.specs.Blocks.{sizeOk, blocksOk}
 use Rattle.carton.specs.Words.{wordsOf}
@@ -26,10 +25,6 @@ word-count s e =
     let whole = eqb-true (length s % 512) 0 (and-right a b d) in
     let most = leb-true (length s) 49152 (and-right (a && b) (leb (length s) 49152) e) in
     (omega arith, omega arith)
-
-pub words-length : (s : List ℕ) → length (wordsOf s) ≡ 63 * (length s / 512)
-unfolding wordsOf
-words-length s = table-length _ _
 
 module _ (s : List ℕ) where
   pub file-10 : sizeOk s ≡ false → fileRefusal s ≡ 10

@@ -17,7 +17,6 @@ use Rattle.phonon.specs.Sets.{slots}
 use Rattle.phonon.specs.Limits.{sizesOf, workLength}
 use Rattle.carton.specs.declared.heading.Places.{Places}
 use Rattle.carton.specs.declared.heading.Heading.{Heading}
-use Rattle.carton.specs.declared.heading.Read.{Read}
 use Rattle.carton.specs.declared.heading.Read.the-variants.{Good, Wrong}
 use Rattle.carton.specs.Heading.{edition, measuresIn, flagBits, formOf, anchoringOf, symmetryOf, placesWith, placesOf, headingIn, measuresNatural, filled, wordsMatch, headingOk, readAs, readOf}
 use Rattle.carton.specs.Small.{smallOk}

@@ -1,5 +1,5 @@
 -- How a carton is written: words into sealed blocks. Key case U is given as such a file.
-use Prim.Native.Nat.{ℕ, zero, suc, _+_, _/_, _%_}
+use Prim.Native.Nat.{ℕ, zero, suc, _/_, _%_}
 use mathlib.Core.List.{List, [], _∷_, _++_}
 use lib.ListN.{take, drop, replicate, set}
 use Rattle.carton.specs.Blocks.{checkOf}

@@ -53,6 +53,3 @@ within x n l h e = omega arith
 -- the byte at which entry x of eight bytes starts
 pub scaled : (x n : ℕ) → x ≤ n → n ≤ 6048 → Fits w64 (x * 8)
 scaled x n h k = record { fits = omega arith }
-
-pub heading-before : (h : Heading) (n : ℕ) → Fitted h n → 25 ≤ n
-heading-before h n f = let i = inside h n f in let o = f .ordered in omega arith

@@ -19,7 +19,7 @@ use Rattle.carton.specs.Heading.{formOf, anchoringOf, symmetryOf, placesWith, h
 use Rattle.carton.specs.Tables.{columnsOf, setIn}
 use Rattle.carton.specs.Seal.{eights, seal, wordsU, fileU, flagsU}
 use Rattle.carton.proofs.FileLaws.{file-read}
-use Rattle.text.specs.Lines.{linesBelow, decimalOf, numberThen, bitsOf, bitsLine, refusedLine, bandsLine, slotLine, totalLine, slotLines, slotsText, totalsText, acceptedText}
+use Rattle.text.specs.Lines.{linesBelow, decimalOf, numberThen, bitsOf, bitsLine, bandsLine, slotLine, totalLine, slotLines, slotsText, totalsText, acceptedText}
 use Rattle.answer.specs.Text.{startOf, outcomeText, setText, fileText, answerText}
 
 -- ---- the file is read, and holds the set of key case M1 with other flags

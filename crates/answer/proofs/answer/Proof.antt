@@ -6,7 +6,6 @@ use Rattle.carton.proofs.FileLaws.{word-count}
 use Rattle.answer.proofs.PlaceLaws.{counted}
 use Rattle.answer.proofs.TextLaws.{answer-10, answer-11, with-count}
 use Rattle.text.proofs.Laws.{wrote-same}
-use native.Mathlib.Omega.{arith}
 use borrow.Author.Needs.{needs}
 use Rattle.answer.proofs.answer.Statement.{statement}
 use Rattle.answer.proofs.answer.Tie as tie

@@ -1,15 +1,11 @@
 -- The heading is read or wrong, and the file is answered with its set's text or 12.
-use mathlib.Core.Path.{ap, _∙_}
-use mathlib.Core.List.{List}
-use Prim.Native.Nat.{ℕ}
-use lib.ListN.{length}
+use mathlib.Core.Path.{_∙_}
 use native.Mathlib.Omega.{arith}
-use Rattle.carton.proofs.FileLaws.{word-count, words-length}
+use Rattle.carton.proofs.FileLaws.{word-count}
 use Rattle.carton.proofs.HeadingLaws.{fitted}
 use Rattle.answer.proofs.TextLaws.{answer-12, answer-read}
 use Rattle.text.proofs.Laws.{wrote-same}
 use mathlib.Core.Path.{sym}
-use native.Mathlib.Omega.{arith}
 use borrow.Author.Needs.{needs}
 use Rattle.answer.proofs.blocks_text.Statement.{statement}
 use Rattle.answer.proofs.blocks_text.Tie as tie
@@ -17,10 +13,15 @@ use Rattle.answer.proofs.blocks_text.Tie as tie
 read-words-requires : tie.Need-read-words-requires
 read-words-requires c κs = search needs
 
+-- the function's entry, from the place where the words are read
+abbrev entry : tie.After-read-words → tie.Start
+entry d = d .before .before .before .before .before
+
 heading-of-requires : tie.Need-heading-of-requires
 heading-of-requires c κs =
-    let n = word-count _ (c .before .before .before .before .before .before .before .before .pre .0) in
-    let e = c .before .before .before .read-words .kept .1 .0 ∙ c .before .before .before .before .before .before .before .before .pre .2 in
+    let d = c .before .before .before in
+    let n = word-count _ (entry d .pre .0) in
+    let e = d .read-words .kept .1 .0 ∙ entry d .pre .2 in
     (omega (arith, n, e), omega (arith, n, e))
 
 enum-known-read : tie.Need-enum-known-read
@@ -40,14 +41,16 @@ same-length-2 c = search needs
 
 returns : tie.Need-returns
 returns c =
-    let q = c .before .before .before .before .before .before .before .before .before .before .before .before .before .before .before .pre in
-    wrote-same (answer-12 _ (q .0) (q .1) _ _ (c .before .before .before .before .before .before .before .before .before .before .read-words .ensures) (c .before .before .before .before .before .before .heading-of .ensures) (c .before .before .before .before .enum-told .given .1)) (c .before .before .put-refused .ensures)
+    let d = c .before .before .before .before .before .before .before .before .before .before in
+    let q = entry d .pre in
+    wrote-same (answer-12 _ (q .0) (q .1) _ _ (d .read-words .ensures) (c .before .before .before .before .before .before .heading-of .ensures) (c .before .before .before .before .enum-told .given .1)) (c .before .before .put-refused .ensures)
 
 heading-text-requires : tie.Need-heading-text-requires
 heading-text-requires c κs =
-    let q = c .before .before .before .before .before .before .before .before .before .before .before .before .before .before .pre in
+    let d = c .before .before .before .before .before .before .before .before .before in
+    let q = entry d .pre in
     let n = word-count _ (q .0) in
-    let e = c .before .before .before .before .before .before .before .before .before .read-words .kept .1 .0 ∙ q .2 in
+    let e = d .read-words .kept .1 .0 ∙ q .2 in
     (fitted _ _ (omega (arith, n, e)) (sym (c .before .before .before .read .given .1) ∙ c .before .before .before .before .before .heading-of .ensures), q .3)
 
 same-length-3 : tie.Need-same-length-3
@@ -58,8 +61,9 @@ same-length-4 c = search needs
 
 returns-2 : tie.Need-returns-2
 returns-2 c =
-    let q = c .before .before .before .before .before .before .before .before .before .before .before .before .before .before .before .before .before .pre in
-    wrote-same (answer-read _ (q .0) (q .1) _ _ (c .before .before .before .before .before .before .before .before .before .before .before .before .read-words .ensures) (c .before .before .before .before .before .before .before .before .heading-of .ensures) _ (c .before .before .before .before .before .before .read .given .1)) (c .before .before .heading-text .ensures)
+    let d = c .before .before .before .before .before .before .before .before .before .before .before .before in
+    let q = entry d .pre in
+    wrote-same (answer-read _ (q .0) (q .1) _ _ (d .read-words .ensures) (c .before .before .before .before .before .before .before .before .heading-of .ensures) _ (c .before .before .before .before .before .before .read .given .1)) (c .before .before .heading-text .ensures)
 
 pub blocks-text-spec : {M : Type 1} → statement M
 blocks-text-spec =

@@ -6,7 +6,6 @@ use Rattle.answer.proofs.PlaceLaws.{zeros-length, flags-long}
 use Rattle.answer.proofs.AcceptedLaws.{three-atoms, few}
 use Rattle.answer.proofs.TextLaws.{text-accepted, text-refused}
 use Rattle.text.proofs.Laws.{wrote-same}
-use native.Mathlib.Omega.{arith}
 use borrow.Author.Needs.{needs}
 use Rattle.answer.proofs.set_text.Statement.{statement}
 use Rattle.answer.proofs.set_text.Tie as tie
@@ -17,8 +16,12 @@ run-door-requires c κs = search needs
 enum-told : tie.Need-enum-told
 enum-told c = search needs
 
+-- the function's entry, from behind the door
+abbrev entry : tie.After-run-door → tie.Start
+entry d = d .before .before .before .before .before .before .before .before .before .before
+
 mul-put-accepted : tie.Need-mul-put-accepted
-mul-put-accepted c = omega (arith, three-atoms _ _ (c .before .before .before .before .before .before .before .before .before .before .before .before .before .before .before .before .before .before .before .before .before .before .pre .0 .work))
+mul-put-accepted c = omega (arith, three-atoms _ _ (entry (c .before .before .before .before .before .before .before .before .before .before .before .before) .pre .0 .work))
 
 sub-put-accepted : tie.Need-sub-put-accepted
 sub-put-accepted c = search needs
@@ -31,9 +34,10 @@ part-put-accepted-end c = search needs
 
 put-accepted-requires : tie.Need-put-accepted-requires
 put-accepted-requires c κs =
-    let a = c .before .before .before .before .before .before .before .before .before .before .before .before .before .before .before .before .before .before .before .before .before .before .before .before .before .args in
-    let q = c .before .before .before .before .before .before .before .before .before .before .before .before .before .before .before .before .before .before .before .before .before .before .before .before .before .pre in
-    let r = c .before .before .before .before .before .before .before .before .before .before .before .before .before .before .before .run-door in
+    let d = c .before .before .before .before .before .before .before .before .before .before .before .before .before .before .before in
+    let a = entry d .args in
+    let q = entry d .pre in
+    let r = d .run-door in
     let f = few (record { floats = a .floats .now; ints = a .ints .now; bytes = a .bytes .now }) (a .h) _ _ _ _ _ (q .0) (r .ensures) (c .before .before .before .before .before .before .before .enum-told .given .1) in
     let strengths = r .kept .1 .1 .1 .1 .0 ∙ zeros-length (slots (a .h .measures)) (a .strengths .now) (q .3) in
     let totals = r .kept .1 .1 .1 .1 .1 .0 ∙ zeros-length (a .h .measures .first) (a .totals .now) (q .4) in (
@@ -64,9 +68,10 @@ same-length-4 c = search needs
 
 returns : tie.Need-returns
 returns c =
-    let a = c .before .before .before .before .before .before .before .before .before .before .before .before .before .before .before .before .before .before .before .before .before .before .before .before .before .before .before .before .args in
-    let q = c .before .before .before .before .before .before .before .before .before .before .before .before .before .before .before .before .before .before .before .before .before .before .before .before .before .before .before .before .pre in
-    wrote-same (text-accepted (record { floats = a .floats .now; ints = a .ints .now; bytes = a .bytes .now }) (a .h) _ _ _ (q .3) (q .4) (q .5) _ (c .before .before .before .before .before .before .before .before .before .before .before .before .before .before .before .before .before .before .run-door .ensures) (c .before .before .before .before .before .before .before .before .before .before .enum-told .given .1))
+    let d = c .before .before .before .before .before .before .before .before .before .before .before .before .before .before .before .before .before .before in
+    let a = entry d .args in
+    let q = entry d .pre in
+    wrote-same (text-accepted (record { floats = a .floats .now; ints = a .ints .now; bytes = a .bytes .now }) (a .h) _ _ _ (q .3) (q .4) (q .5) _ (d .run-door .ensures) (c .before .before .before .before .before .before .before .before .before .before .enum-told .given .1))
     (c .before .before .put-accepted .ensures)
 
 same-length-5 : tie.Need-same-length-5
@@ -83,9 +88,10 @@ same-length-8 c = search needs
 
 returns-2 : tie.Need-returns-2
 returns-2 c =
-    let a = c .before .before .before .before .before .before .before .before .before .before .before .before .before .before .before .before .before .before .before .before .before .before .before .args in
-    let q = c .before .before .before .before .before .before .before .before .before .before .before .before .before .before .before .before .before .before .before .before .before .before .before .pre in
-    wrote-same (text-refused (record { floats = a .floats .now; ints = a .ints .now; bytes = a .bytes .now }) (a .h) _ _ _ (q .3) (q .4) (q .5) _ (c .before .before .before .before .before .before .before .before .before .before .before .before .before .run-door .ensures) _ (c .before .before .before .before .before .answer .given .1))
+    let d = c .before .before .before .before .before .before .before .before .before .before .before .before .before in
+    let a = entry d .args in
+    let q = entry d .pre in
+    wrote-same (text-refused (record { floats = a .floats .now; ints = a .ints .now; bytes = a .bytes .now }) (a .h) _ _ _ (q .3) (q .4) (q .5) _ (d .run-door .ensures) _ (c .before .before .before .before .before .answer .given .1))
     (c .before .before .put-refused .ensures)
 
 pub set-text-spec : {M : Type 1} → statement M

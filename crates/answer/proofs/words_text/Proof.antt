@@ -18,10 +18,11 @@ read-bytes-requires c κs = search needs
 
 set-text-requires : tie.Need-set-text-requires
 set-text-requires c κs =
-    let q = c .before .before .before .before .before .before .before .before .before .before .before .before .before .before .before .before .before .before .before .before .before .before .before .before .before .pre in
-    let floats = floats-length _ _ (c .before .before .before .before .before .before .before .before .before .before .before .before .before .before .before .before .read-floats .ensures) in
-    let ints = ints-length _ _ (c .before .before .before .before .before .before .before .before .before .before .before .before .read-ints .ensures) in
-    let bytes = bytes-length _ _ (c .before .before .before .before .before .before .before .before .before .read-bytes .ensures) in
+    let d = c .before .before .before .before .before .before .before .before .before in
+    let q = d .before .before .before .before .before .before .before .before .before .before .before .before .before .before .before .before .pre in
+    let floats = floats-length _ _ (d .before .before .before .before .before .before .before .read-floats .ensures) in
+    let ints = ints-length _ _ (d .before .before .before .read-ints .ensures) in
+    let bytes = bytes-length _ _ (d .read-bytes .ensures) in
     (fitted-same _ _ _ floats (q .0), ints ∙ sym floats, bytes ∙ sym floats, q .4, q .5, q .6, q .7)
 
 same-length : tie.Need-same-length
@@ -47,7 +48,8 @@ same-length-7 c = search needs
 
 returns : tie.Need-returns
 returns c =
-    wrote-same (columns-same _ _ _ _ _ (c .before .before .before .before .before .before .before .before .before .before .before .before .before .before .before .before .before .before .before .before .before .before .before .before .before .read-floats .ensures) (c .before .before .before .before .before .before .before .before .before .before .before .before .before .before .before .before .before .before .before .before .before .read-ints .ensures) (c .before .before .before .before .before .before .before .before .before .before .before .before .before .before .before .before .before .before .read-bytes .ensures))
+    let d = c .before .before .before .before .before .before .before .before .before .before .before .before .before .before .before .before .before .before in
+    wrote-same (columns-same _ _ _ _ _ (d .before .before .before .before .before .before .before .read-floats .ensures) (d .before .before .before .read-ints .ensures) (d .read-bytes .ensures))
     (c .before .before .before .before .before .before .before .before .set-text .ensures)
 
 pub words-text-spec : {M : Type 1} → statement M

@@ -1,6 +1,6 @@
 -- After k turns the sum is that of the first k words; 127 words below 2^32 do not wrap.
 use Prim.Native.Nat.{ℕ, _+_, _-_, _*_, _%_, _≤_}
-use mathlib.Core.Path.{_≡_, sym, ap, _∙_}
+use mathlib.Core.Path.{_≡_, sym, ap}
 use Rattle.phonon.specs.Number.{fold}
 use Rattle.phonon.proofs.Laws.{fold-step}
 use Rattle.carton.specs.Blocks.{fourAt, checkOf}

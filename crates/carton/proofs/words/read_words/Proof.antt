@@ -1,6 +1,6 @@
 -- After i turns the first i entries are written.
 use Prim.Native.Nat.{_-_, _≤_}
-use mathlib.Core.Path.{_≡_, refl, _∙_}
+use mathlib.Core.Path.{_≡_, refl}
 use lib.ListN.{length, take, length-set}
 use Rattle.phonon.specs.Number.{table, tableFrom}
 use Rattle.carton.specs.Words.{wordAt, wordsOf}
