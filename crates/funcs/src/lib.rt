@@ -2,11 +2,12 @@
 use phonon::SinCos;
 ghost use mathlib.Core.Path.{_≡_};
 ghost use mathlib.Core.Bool.{true, false};
-ghost use mathlib.Core.List.{[], _∷_};
+ghost use mathlib.Core.List.{[], _∷_, foldl};
 ghost use Prim.Native.Nat.{_<_, _≤_};
 ghost use lib.IntN.{pos};
+ghost use lib.ListN.{length};
 ghost use lib.Ieee.{fin};
-ghost use Rattle.phonon.specs.Number.{_⊗_, at, float, whole};
+ghost use Rattle.phonon.specs.Number.{_⊕_, _⊗_, _⊘_, f1, at, float, whole};
 ghost use Rattle.phonon.specs.Exp as Exp;
 ghost use Rattle.phonon.specs.Trig as Trig;
 ghost use Rattle.phonon.specs.Funcs.{boseEinstein};
@@ -111,15 +112,18 @@ pub struct Two {
     pub two: f64,
 }
 
-fn exp_series_two(r: f64, s: f64) -> Two
-    ensures { λ p. ⌜ (p .one ≡ Exp.expSeries r) × (p .two ≡ Exp.expSeries s) ⌝ }
+// The divisors are lent: a constant array that is read in a loop is laid out anew in every turn.
+fn exp_series_two(r: f64, s: f64, divisors: &[f64; 18]) -> Two
+    requires { ⌜ length (now divisors) ≡ 18 ⌝ }
+    ensures { λ p. ⌜ (p .one ≡ foldl (λ p d. f1 ⊕ p ⊗ (r ⊘ d)) f1 (now (divisors .entry))) × (p .two ≡ foldl (λ p d. f1 ⊕ p ⊗ (s ⊘ d)) f1 (now (divisors .entry))) ⌝ }
 {
     let mut p = 1.0;
     let mut q = 1.0;
     let mut i = 0usize;
     while i < 18 {
-        p = 1.0 + p * (r / EXP_DIVISORS[i]);
-        q = 1.0 + q * (s / EXP_DIVISORS[i]);
+        let d = divisors[i];
+        p = 1.0 + p * (r / d);
+        q = 1.0 + q * (s / d);
         i += 1;
     }
     Two { one: p, two: q }
@@ -131,7 +135,7 @@ pub fn exp_two(x: f64, y: f64) -> Two
     if is_reducible(x) & is_reducible(y) {
         let a = reduce(x);
         let b = reduce(y);
-        let p = exp_series_two(a.remainder, b.remainder);
+        let p = exp_series_two(a.remainder, b.remainder, &EXP_DIVISORS);
         return Two {
             one: p.one * a.power,
             two: p.two * b.power,

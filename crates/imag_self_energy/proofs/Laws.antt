@@ -8,21 +8,19 @@ use mathlib.Core.List.{List}
 use mathlib.Core.Logic.{_⊎_, ⊎-elim}
 use lib.Dec.{eqb}
 use lib.Ieee.{Float, nan, lt}
-use lib.IntN.{ℤ}
 use lib.ListN.{getD, length, set, length-set, length-take, length-drop}
 use lib.Seq.{getD-set-same, getD-set-other, getD-take, getD-drop, ext-getD}
 use Rattle.phonon.specs.declared.Band.{Band}
 use Rattle.phonon.specs.declared.Weights.{Weights}
 use Rattle.phonon.specs.declared.Weights.the-variants.{PerSlot, AtFrequencyPoint}
-use Rattle.phonon.specs.Number.{_⊕_, f0, float, index, at, int, fold, table}
+use Rattle.phonon.specs.Number.{_⊕_, f0, float, at, fold, table}
 use Rattle.phonon.specs.Funcs.{boseEinstein}
 use Rattle.phonon.specs.Sets.{slot, part}
 use Rattle.phonon.specs.Limits.{entriesOf}
 use Rattle.phonon.specs.ImagSelfEnergy.{Sum, block, placeOf, second1, third2, counted, contribution, slotTerm, total, totals}
 use Rattle.phonon.proofs.Laws.{fold-ext, fold-step, table-ext, table-at, table-length}
 use Rattle.funcs.specs.Occupation.{mark, marked}
-use Rattle.imag_self_energy.specs.declared.Shared.{Shared}
-use Rattle.imag_self_energy.specs.Bands.{bandOf, Held, bandAt, addSlot, slotStep, columnSum, bandTotal, Within, Sized}
+use Rattle.imag_self_energy.specs.Bands.{bandOf, Held, addSlot, slotStep, columnSum, bandTotal, Within, Sized}
 
 -- ---- blocks
 

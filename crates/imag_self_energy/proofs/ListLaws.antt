@@ -5,19 +5,19 @@ use native.Mathlib.Omega.{arith}
 use mathlib.Core.Path.{_≡_, refl, sym, ap, _∙_}
 use mathlib.Core.Bool.{Bool, true, false, _&&_, cond}
 use mathlib.Core.List.{List}
-use mathlib.Core.Logic.{_⊎_, ⊎-elim}
+use mathlib.Core.Logic.{⊎-elim}
 use lib.Dec.{eqb}
 use lib.Ieee.{Float, nan, lt}
 use lib.ListN.{getD, length, set, length-set}
-use lib.Seq.{getD-set-same, getD-set-other}
+use lib.Seq.{getD-set-same, getD-set-other, getD-take, getD-drop}
 use Rattle.phonon.specs.declared.Band.{Band}
 use Rattle.phonon.specs.Number.{_⊕_, f0, at, fold}
-use Rattle.phonon.specs.Sets.{slot}
+use Rattle.phonon.specs.Sets.{slot, part}
 use Rattle.phonon.specs.ImagSelfEnergy.{contribution}
 use Rattle.phonon.proofs.Laws.{fold-ext, fold-step, pair-lt}
 use Rattle.imag_self_energy.specs.declared.Shared.{Shared}
 use Rattle.imag_self_energy.specs.Bands.{mostBands, bandAt, addSlot, slotStep, columnSum, bandTotal}
-use Rattle.imag_self_energy.specs.Lists.{Places, Listed, pairStep, pairColumn, pairWalk, unflaggedStep, unflaggedWalk, sumOf, differenceOf, Factors, warmTerm, coldTerm, placeTerm, pairTotal}
+use Rattle.imag_self_energy.specs.Lists.{Listed, pairStep, pairColumn, pairWalk, unflaggedStep, unflaggedWalk, Factors, warmTerm, coldTerm, placeTerm, pairTotal}
 
 -- ---- lists
 
@@ -138,6 +138,9 @@ place-below area c {o} {l} p h =
 pub slot-place : (n c j k : ℕ) → c * (n * n) + (j * n + k) ≡ slot n c j k
 slot-place n c j k = omega (arith, add-mul (c * n) j n, mul-assoc c n n)
 
+part-place : (n c j k : ℕ) (l : List Float) → j < n → k < n → at (part (n * n) c l) (j * n + k) ≡ at l (slot n c j k)
+part-place n c j k l p q = let i : j * n + k < n * n = pair-lt p q in rw (sym (slot-place n c j k)) (rw (getD-take, getD-drop) refl)
+
 -- ---- the sum over a list
 
 module _ (h : Shared) (n c b : ℕ) (seconds thirds : List Band) (flags : List ℕ) (x y v sums differences : List Float) (w : Factors n seconds thirds sums differences) where
@@ -145,7 +148,7 @@ module _ (h : Shared) (n c b : ℕ) (seconds thirds : List Band) (flags : List �
       → placeTerm h sums differences (n * n) c x y b v (j * n + k)
       ≡ contribution (h .temperature) (h .weight) (bandAt seconds j .occupation) (bandAt thirds k .occupation) (at x (slot n c j k)) (at y (slot n c j k)) (at v (slot n b j k))
   unfolding placeTerm warmTerm coldTerm contribution
-  term-is j k p q = rw (w .sum j k p q, w .difference j k p q, slot-place n c j k, slot-place n b j k) refl
+  term-is j k p q = rw (w .sum j k p q, w .difference j k p q, part-place n c j k x p q, part-place n c j k y p q, part-place n b j k v p q) refl
 
   -- what a slot does to the sum: nothing, where it is flagged
   slotAt : ℕ → Float → Float

@@ -5,11 +5,10 @@ use mathlib.Core.Bool.{_&&_, cond}
 use mathlib.Core.List.{List}
 use lib.Dec.{eqb}
 use lib.Ieee.{Float, nan, lt}
-use lib.IntN.{ℤ}
 use lib.ListN.{getD, length}
 use Rattle.phonon.specs.declared.Band.{Band}
 use Rattle.phonon.specs.declared.Weights.{Weights}
-use Rattle.phonon.specs.Number.{_⊕_, f0, index, at, int, fold}
+use Rattle.phonon.specs.Number.{_⊕_, f0, at, fold}
 use Rattle.phonon.specs.Sets.{slot}
 use Rattle.phonon.specs.Limits.{entriesOf}
 use Rattle.phonon.specs.ImagSelfEnergy.{contribution}

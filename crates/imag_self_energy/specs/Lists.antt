@@ -8,6 +8,7 @@ use lib.Ieee.{Float, lt}
 use lib.ListN.{getD, length}
 use Rattle.phonon.specs.declared.Band.{Band}
 use Rattle.phonon.specs.Number.{_⊕_, _⊖_, _⊗_, f0, f1, at, fold}
+use Rattle.phonon.specs.Sets.{part}
 use Rattle.imag_self_energy.specs.declared.Shared.{Shared}
 use Rattle.imag_self_energy.specs.Bands.{bandAt}
 
@@ -50,17 +51,19 @@ pub record Factors (n : ℕ) (seconds thirds : List Band) (sums differences : Li
   pub sum : (j k : ℕ) → j < n → k < n → at sums (j * n + k) ≡ sumOf seconds thirds j k
   pub difference : (j k : ℕ) → j < n → k < n → at differences (j * n + k) ≡ differenceOf seconds thirds j k
 
--- what the slot at place o adds: block c of the weights x and y, block b of the strengths v
-unfoldable pub warmTerm : Float → List Float → List Float → ℕ → ℕ → List Float → List Float → ℕ → List Float → ℕ → Float
-warmTerm weight sums differences area c x y b v o =
-    (at sums o ⊗ at x (c * area + o) ⊕ at differences o ⊗ at y (c * area + o)) ⊗ at v (b * area + o) ⊗ weight
+-- what the slot at place o of a block adds: x and y are the block's weights, v its strengths
+unfoldable pub warmTerm : Float → List Float → List Float → List Float → List Float → List Float → ℕ → Float
+warmTerm weight sums differences x y v o = (at sums o ⊗ at x o ⊕ at differences o ⊗ at y o) ⊗ at v o ⊗ weight
 
-unfoldable pub coldTerm : Float → ℕ → ℕ → List Float → ℕ → List Float → ℕ → Float
-coldTerm weight area c x b v o = at x (c * area + o) ⊗ at v (b * area + o) ⊗ weight
+unfoldable pub coldTerm : Float → List Float → List Float → ℕ → Float
+coldTerm weight x v o = at x o ⊗ at v o ⊗ weight
 
+-- with block c of the weights, and block b of the strengths
 unfoldable pub placeTerm : Shared → List Float → List Float → ℕ → ℕ → List Float → List Float → ℕ → List Float → ℕ → Float
 placeTerm h sums differences area c x y b v o =
-    cond (lt f0 (h .temperature)) (warmTerm (h .weight) sums differences area c x y b v o) (coldTerm (h .weight) area c x b v o)
+    cond (lt f0 (h .temperature))
+    (warmTerm (h .weight) sums differences (part area c x) (part area c y) (part area b v) o)
+    (coldTerm (h .weight) (part area c x) (part area b v) o)
 
 -- the total of position b, from the pairs listed and block c of the flags
 unfoldable pub pairTotal : Shared → ℕ → ℕ → List ℕ → List ℕ → List Float → List Float → List Float → List Float → List Float → ℕ → ℕ → Float

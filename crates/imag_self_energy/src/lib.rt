@@ -167,62 +167,52 @@ fn fill_factors(
     }
 }
 
-// Above temperature 0: the listed slots of block b of the strengths, with block c of the weights.
+// Above temperature 0: the listed slots of a block, of first weights x, second weights y and strengths v.
 fn sum_warm(
     weight: f64,
     list: &[u16],
     count: usize,
-    area: usize,
     sums: &[f64],
     differences: &[f64],
-    first: &[f64],
-    second: &[f64],
-    c: usize,
-    strengths: &[f64],
-    b: usize,
+    x: &[f64],
+    y: &[f64],
+    v: &[f64],
 ) -> f64
-    requires { ⌜ Places area (now list) count × (area ≤ length (now sums)) × (area ≤ length (now differences)) × ((c + 1) * area ≤ length (now first)) × ((c + 1) * area ≤ length (now second)) × ((b + 1) * area ≤ length (now strengths)) ⌝ }
-    ensures { λ r. ⌜ r ≡ fold count f0 (λ i t. t ⊕ warmTerm weight (now (sums .entry)) (now (differences .entry)) area c (now (first .entry)) (now (second .entry)) b (now (strengths .entry)) (getD (now (list .entry)) i 0)) ⌝ }
+    requires { ⌜ Places (length (now v)) (now list) count × (length (now v) ≤ length (now sums)) × (length (now v) ≤ length (now differences)) × (length (now v) ≤ length (now x)) × (length (now v) ≤ length (now y)) ⌝ }
+    ensures { λ r. ⌜ r ≡ fold count f0 (λ i t. t ⊕ warmTerm weight (now (sums .entry)) (now (differences .entry)) (now (x .entry)) (now (y .entry)) (now (v .entry)) (getD (now (list .entry)) i 0)) ⌝ }
 {
-    let from = c * area;
-    let start = b * area;
     let mut total = 0.0;
     for i in 0..count {
         let o = wide(list[i]);
-        let x = first[from + o];
-        let y = second[from + o];
-        let v = strengths[start + o];
-        total = total + (sums[o] * x + differences[o] * y) * v * weight;
+        total = total + (sums[o] * x[o] + differences[o] * y[o]) * v[o] * weight;
     }
     total
 }
 
 // At temperature 0.
-fn sum_cold(
-    weight: f64,
-    list: &[u16],
-    count: usize,
-    area: usize,
-    first: &[f64],
-    c: usize,
-    strengths: &[f64],
-    b: usize,
-) -> f64
-    requires { ⌜ Places area (now list) count × ((c + 1) * area ≤ length (now first)) × ((b + 1) * area ≤ length (now strengths)) ⌝ }
-    ensures { λ r. ⌜ r ≡ fold count f0 (λ i t. t ⊕ coldTerm weight area c (now (first .entry)) b (now (strengths .entry)) (getD (now (list .entry)) i 0)) ⌝ }
+fn sum_cold(weight: f64, list: &[u16], count: usize, x: &[f64], v: &[f64]) -> f64
+    requires { ⌜ Places (length (now v)) (now list) count × (length (now v) ≤ length (now x)) ⌝ }
+    ensures { λ r. ⌜ r ≡ fold count f0 (λ i t. t ⊕ coldTerm weight (now (x .entry)) (now (v .entry)) (getD (now (list .entry)) i 0)) ⌝ }
 {
-    let from = c * area;
-    let start = b * area;
     let mut total = 0.0;
     for i in 0..count {
         let o = wide(list[i]);
-        let x = first[from + o];
-        let v = strengths[start + o];
-        total = total + x * v * weight;
+        total = total + x[o] * v[o] * weight;
     }
     total
 }
 
+// Block c of a slice, of area numbers.
+fn block_part(s: &[f64], c: usize, area: usize) -> &[f64]
+    requires { ⌜ (c + 1) * area ≤ length (now s) ⌝ }
+    ensures { λ r. ⌜ (now r ≡ part area c (now (s .entry))) × (length (now r) ≡ area) ⌝ }
+{
+    let start = c * area;
+    let end = start + area;
+    &s[start..end]
+}
+
+// The listed slots, with block c of the weights and block b of the strengths.
 fn sum_listed(
     h: Shared,
     list: &[u16],
@@ -239,22 +229,13 @@ fn sum_listed(
     requires { ⌜ Places area (now list) count × (area ≤ length (now sums)) × (area ≤ length (now differences)) × ((c + 1) * area ≤ length (now first)) × ((c + 1) * area ≤ length (now second)) × ((b + 1) * area ≤ length (now strengths)) ⌝ }
     ensures { λ r. ⌜ r ≡ fold count f0 (λ i t. t ⊕ placeTerm h (now (sums .entry)) (now (differences .entry)) area c (now (first .entry)) (now (second .entry)) b (now (strengths .entry)) (getD (now (list .entry)) i 0)) ⌝ }
 {
+    let x = block_part(first, c, area);
+    let v = block_part(strengths, b, area);
     if 0.0 < h.temperature {
-        return sum_warm(
-            h.weight,
-            list,
-            count,
-            area,
-            sums,
-            differences,
-            first,
-            second,
-            c,
-            strengths,
-            b,
-        );
+        let y = block_part(second, c, area);
+        return sum_warm(h.weight, list, count, sums, differences, x, y, v);
     }
-    sum_cold(h.weight, list, count, area, first, c, strengths, b)
+    sum_cold(h.weight, list, count, x, v)
 }
 
 // The first band whose block of flags and weights position b reads.

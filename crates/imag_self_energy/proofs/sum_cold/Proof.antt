@@ -1,29 +1,21 @@
 -- After i turns the sum is that of the first i places of the list.
 use Prim.Native.Nat.{_-_, _≤_, _<_}
-use mathlib.Core.Path.{_≡_, refl, _∙_}
+use mathlib.Core.Path.{_≡_, refl}
 use native.Mathlib.Omega.{arith}
 use borrow.Author.Needs.{needs}
 use lib.ListN.{getD, length}
 use Rattle.phonon.specs.Number.{_⊕_, f0, fold}
 use Rattle.imag_self_energy.specs.Lists.{coldTerm}
 use Rattle.imag_self_energy.proofs.Laws.{turn, at-end}
-use Rattle.imag_self_energy.proofs.ListLaws.{place-below}
 use Rattle.imag_self_energy.proofs.sum_cold.Statement.{statement}
 use Rattle.imag_self_energy.proofs.sum_cold.Tie as tie
 
 abbrev Inv-loop : tie.InvT-loop
-Inv-loop weight list count area first c strengths b from start total₀ i₀ total i =
-    (i ≤ count) × (total ≡ fold i f0 (λ k t. t ⊕ coldTerm weight area c first b strengths (getD list k 0)))
+Inv-loop weight list count x v total₀ i₀ total i =
+    (i ≤ count) × (total ≡ fold i f0 (λ k t. t ⊕ coldTerm weight x v (getD list k 0)))
 
 abbrev μ-loop : tie.MeasureT-loop
-μ-loop weight list count area first c strengths b from start total₀ i₀ total i =
-    count - i
-
-mul-from : tie.Need-mul-from Inv-loop μ-loop
-mul-from c = omega arith
-
-mul-start : tie.Need-mul-start Inv-loop μ-loop
-mul-start c = omega arith
+μ-loop weight list count x v total₀ i₀ total i = count - i
 
 loop-holds : tie.Need-loop-holds Inv-loop μ-loop
 unfolding fold
@@ -38,27 +30,21 @@ shared-slice-read-wide c = omega arith
 wide-requires : tie.Need-wide-requires Inv-loop μ-loop
 wide-requires c κs = search needs
 
--- the place lies below the area
-place : (c : tie.After-wide Inv-loop μ-loop) → c .wide .result < c .before .before .before .before .before .before .before .args .area
+-- the place lies below the block's length
+place : (c : tie.After-wide Inv-loop μ-loop) → c .wide .result < length (c .before .before .before .before .before .before .before .args .v .now)
 place c = rw (c .wide .ensures) (c .before .before .before .before .before .before .before .pre .0 .below (c .before .before .before .loop .i) (c .before .before .loop-test .taken))
 
-add-x : tie.Need-add-x Inv-loop μ-loop
-add-x c = omega (arith, place-below _ (c .before .before .before .before .before .before .before .args .c) (place c) (c .before .before .before .before .before .before .before .pre .1))
+mul-total : tie.Need-mul-total Inv-loop μ-loop
+mul-total c = omega (arith, place c)
 
-mul-x : tie.Need-mul-x Inv-loop μ-loop
-mul-x c = omega (arith, place-below _ (c .before .before .before .before .before .before .before .args .c) (place c) (c .before .before .before .before .before .before .before .pre .1))
+shared-slice-read-total : tie.Need-shared-slice-read-total Inv-loop μ-loop
+shared-slice-read-total c = omega (arith, place (c .before))
 
-shared-slice-read-x : tie.Need-shared-slice-read-x Inv-loop μ-loop
-shared-slice-read-x c = omega (arith, place-below _ (c .before .before .before .before .before .before .before .before .args .c) (place (c .before)) (c .before .before .before .before .before .before .before .before .pre .1))
+mul-total-2 : tie.Need-mul-total-2 Inv-loop μ-loop
+mul-total-2 c = omega (arith, place (c .before))
 
-add-v : tie.Need-add-v Inv-loop μ-loop
-add-v c = omega (arith, place-below _ (c .before .before .before .before .before .before .before .before .args .b) (place (c .before)) (c .before .before .before .before .before .before .before .before .pre .2))
-
-mul-v : tie.Need-mul-v Inv-loop μ-loop
-mul-v c = omega (arith, place-below _ (c .before .before .before .before .before .before .before .before .args .b) (place (c .before)) (c .before .before .before .before .before .before .before .before .pre .2))
-
-shared-slice-read-v : tie.Need-shared-slice-read-v Inv-loop μ-loop
-shared-slice-read-v c = omega (arith, place-below _ (c .before .before .before .before .before .before .before .before .before .args .b) (place (c .before .before)) (c .before .before .before .before .before .before .before .before .before .pre .2))
+shared-slice-read-total-2 : tie.Need-shared-slice-read-total-2 Inv-loop μ-loop
+shared-slice-read-total-2 c = omega (arith, place (c .before .before))
 
 add-i : tie.Need-add-i Inv-loop μ-loop
 add-i c = omega arith
@@ -79,18 +65,14 @@ sum-cold-spec =
     (tie.spec
     Inv-loop
     μ-loop
-    mul-from
-    mul-start
     loop-holds
     mul-wide
     shared-slice-read-wide
     wide-requires
-    add-x
-    mul-x
-    shared-slice-read-x
-    add-v
-    mul-v
-    shared-slice-read-v
+    mul-total
+    shared-slice-read-total
+    mul-total-2
+    shared-slice-read-total-2
     add-i
     loop-less
     loop-again
