@@ -20,9 +20,9 @@ use Rattle.carton.specs.Tables.{Columns, columnsOf, setIn}
 use Rattle.carton.proofs.FileLaws.{file-10, file-11, file-12, file-read}
 use Rattle.carton.proofs.HeadingLaws.{read-good, read-wrong}
 use Rattle.io.specs.Counts.{Counts}
-use Rattle.text.specs.Lines.{refusedLine, acceptedText}
+use Rattle.text.specs.Lines.{refusedLine, acceptedText, answeredText}
 use Rattle.text.specs.Wrote.{Wrote}
-use Rattle.answer.specs.Text.{zeros, startOf, outcomeText, setText, fileText, answerText}
+use Rattle.answer.specs.Text.{zeros, startOf, setText, fileText, answerText}
 
 -- ---- the set
 
@@ -32,17 +32,17 @@ module _ (w : Columns) (h : Heading) (v u k : List Float) (ev : v ≡ zeros (slo
   unfolding startOf
   starts = rw (ev, eu, ek) refl
 
-  text-is : outcomeText (o .answer) (setIn w h v u k) o ≡ setText (startOf w h)
+  text-is : answeredText (o .answer) (setIn w h v u k) o ≡ setText (startOf w h)
   unfolding setText
-  text-is = ap (λ (x : JoinedOutcome). outcomeText (x .answer) (setIn w h v u k) x) e ∙ ap (λ (s : JoinedSet). outcomeText (joinedOutcome s .answer) s (joinedOutcome s)) starts
+  text-is = ap (λ (x : JoinedOutcome). answeredText (x .answer) (setIn w h v u k) x) e ∙ ap (λ (s : JoinedSet). answeredText (joinedOutcome s .answer) s (joinedOutcome s)) starts
 
   pub text-accepted : o .answer ≡ Accepted
       → acceptedText (h .measures .first) (bandsOf (h .measures)) (slice (h .places .flags) (h .places .constants) (w .bytes)) (o .strengths) (o .totals) ≡ setText (startOf w h)
-  unfolding outcomeText setIn
+  unfolding answeredText setIn
   text-accepted a = rw a at text-is
 
   pub text-refused : (n : ℕ) → o .answer ≡ Refused n → refusedLine n ≡ setText (startOf w h)
-  unfolding outcomeText
+  unfolding answeredText
   text-refused n a = rw a at text-is
 
 pub columns-same : (h : Heading) (ws : List ℕ) (f : List Float) (i : List ℤ) (b : List ℕ) → f ≡ floatsOf ws → i ≡ intsOf ws → b ≡ bytesOf ws

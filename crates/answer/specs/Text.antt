@@ -3,17 +3,15 @@ use Prim.Native.Nat.{ℕ, zero, suc}
 use mathlib.Core.List.{List}
 use lib.Ieee.{Float}
 use lib.ListN.{replicate}
-use Rattle.phonon.specs.declared.Answer.{Answer}
-use Rattle.phonon.specs.declared.Answer.the-variants.{Accepted, Refused}
 use Rattle.phonon.specs.Number.{f0}
-use Rattle.phonon.specs.Sets.{bandsOf, slots, JoinedSet}
-use Rattle.phonon.specs.Doors.{JoinedOutcome, joinedOutcome}
+use Rattle.phonon.specs.Sets.{slots, JoinedSet}
+use Rattle.phonon.specs.Doors.{joinedOutcome}
 use Rattle.carton.specs.declared.heading.Heading.{Heading}
 use Rattle.carton.specs.Words.{wordsOf}
 use Rattle.carton.specs.Heading.{headingIn}
 use Rattle.carton.specs.Tables.{Columns, columnsOf, setIn}
 use Rattle.carton.specs.File.{fileRefusal}
-use Rattle.text.specs.Lines.{refusedLine, acceptedText}
+use Rattle.text.specs.Lines.{refusedLine, answeredText}
 
 abbrev pub zeros : ℕ → List Float
 zeros n = replicate n f0
@@ -22,13 +20,9 @@ zeros n = replicate n f0
 unfoldable pub startOf : Columns → Heading → JoinedSet
 startOf w h = setIn w h (zeros (slots (h .measures))) (zeros (h .measures .first)) (zeros 6144)
 
--- what the joined door left of a set, as text
-unfoldable pub outcomeText : Answer → JoinedSet → JoinedOutcome → List ℕ
-outcomeText Accepted s o = acceptedText (s .tables .measures .first) (bandsOf (s .tables .measures)) (s .flags) (o .strengths) (o .totals)
-outcomeText (Refused n) s o = refusedLine n
-
+-- what the joined door leaves of a set, as text
 unfoldable pub setText : JoinedSet → List ℕ
-setText s = outcomeText (joinedOutcome s .answer) s (joinedOutcome s)
+setText s = answeredText (joinedOutcome s .answer) s (joinedOutcome s)
 
 -- the text of a file that is refused with n, or read
 unfoldable pub fileText : ℕ → List ℕ → List ℕ

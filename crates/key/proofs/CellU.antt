@@ -19,8 +19,8 @@ use Rattle.carton.specs.Heading.{formOf, anchoringOf, symmetryOf, placesWith, h
 use Rattle.carton.specs.Tables.{columnsOf, setIn}
 use Rattle.carton.specs.Seal.{eights, seal, wordsU, fileU, flagsU}
 use Rattle.carton.proofs.FileLaws.{file-read}
-use Rattle.text.specs.Lines.{linesBelow, decimalOf, numberThen, bitsOf, bitsLine, bandsLine, slotLine, totalLine, slotLines, slotsText, totalsText, acceptedText}
-use Rattle.answer.specs.Text.{startOf, outcomeText, setText, fileText, answerText}
+use Rattle.text.specs.Lines.{linesBelow, decimalOf, numberThen, bitsOf, bitsLine, bandsLine, slotLine, totalLine, slotLines, columnLines, planeLines, slotsText, totalsText, acceptedText, answeredText}
+use Rattle.answer.specs.Text.{startOf, setText, fileText, answerText}
 
 -- ---- the file is read, and holds the set of key case M1 with other flags
 
@@ -56,7 +56,7 @@ printU =
     ++ (116 ∷ 111 ∷ 116 ∷ 97 ∷ 108 ∷ 32 ∷ 50 ∷ 32 ∷ 48 ∷ 48 ∷ 48 ∷ 48 ∷ 48 ∷ 48 ∷ 48 ∷ 48 ∷ 48 ∷ 48 ∷ 48 ∷ 48 ∷ 48 ∷ 48 ∷ 48 ∷ 48 ∷ 10 ∷ [])
 
 text-u : setText (startOf (columnsOf (wordsU flagsU)) (headingIn (wordsU flagsU))) ≡ printU
-unfolding evaluate wordsU headingIn placesWith formOf anchoringOf symmetryOf floatsOf intsOf bytesOf intOf byteOf setIn startOf outcomeText setText linesBelow decimalOf numberThen bitsOf bitsLine bandsLine slotLine totalLine slotLines slotsText totalsText acceptedText toBits
+unfolding evaluate wordsU headingIn placesWith formOf anchoringOf symmetryOf floatsOf intsOf bytesOf intOf byteOf setIn startOf answeredText setText linesBelow decimalOf numberThen bitsOf bitsLine bandsLine slotLine totalLine slotLines columnLines planeLines slotsText totalsText acceptedText toBits
 text-u = refl
 
 pub key-u : answerText (fileU flagsU) ≡ printU
