@@ -2,3 +2,4 @@
 pub mod Laws
 pub mod ListLaws
 pub mod CheckLaws
+pub mod SlotLaws

@@ -18,7 +18,7 @@ ghost use Rattle.phonon.specs.ImagSelfEnergy as Ise;
 ghost use Rattle.phonon.specs.Refusal.{totalsMeasuresOk, bathFinite, bathOk, totalsRefusal};
 ghost use Rattle.funcs.specs.Occupation.{marked};
 ghost use Rattle.phonon.specs.Doors.{TotalsOutcome, totalsOutcome};
-ghost use Rattle.imag_self_energy.specs.Bands.{mostBands, bandTotal, Sized};
+ghost use Rattle.imag_self_energy.specs.Bands.{mostBands, addSlot, bandTotal, Sized};
 ghost use Rattle.imag_self_energy.specs.Lists.{Places, Listed, pairWalk, unflaggedWalk, Factors, warmTerm, coldTerm, placeTerm};
 ghost use Rattle.imag_self_energy.specs.Check.{checkedFor, measuresChecked, lengthTests, answerOf};
 
@@ -400,6 +400,108 @@ fn fill_many(
     );
 }
 
+// By lists of the slots that count.
+fn fill_lists(
+    h: Shared,
+    weights: Weights,
+    n: usize,
+    seconds: [Band; 24],
+    thirds: [Band; 24],
+    flags: &[u8],
+    first: &[f64],
+    second: &[f64],
+    strengths: &[f64],
+    totals: &mut [f64],
+)
+    requires { ⌜ Sized weights n (length (now totals)) (now flags) (now first) (now second) (now strengths) ⌝ }
+    ensures { λ _. ⌜ now (totals .exit) ≡ table (length (now (totals .entry))) (λ b. bandTotal h n (Ise.block weights b) b seconds thirds (now (flags .entry)) (now (first .entry)) (now (second .entry)) (now (strengths .entry))) ⌝ }
+{
+    if n <= 12 {
+        fill_few(
+            h,
+            weights,
+            n,
+            seconds,
+            thirds,
+            flags,
+            first,
+            second,
+            strengths,
+            totals,
+        );
+    } else {
+        fill_many(
+            h,
+            weights,
+            n,
+            seconds,
+            thirds,
+            flags,
+            first,
+            second,
+            strengths,
+            totals,
+        );
+    }
+}
+
+// ---- slot by slot
+
+// One slot, if it counts: p and q are its later bands, x and y its weights, v its strength.
+fn add_slot(sum: f64, h: Shared, flag: u8, p: Band, q: Band, x: f64, y: f64, v: f64) -> f64
+    ensures { λ r. ⌜ r ≡ addSlot h flag p q x y v sum ⌝ }
+{
+    if (flag == 0) & (h.cutoff < p.frequency) & (h.cutoff < q.frequency) {
+        if 0.0 < h.temperature {
+            let n = p.occupation;
+            let m = q.occupation;
+            return sum + ((n + m + 1.0) * x + (n - m) * y) * v * h.weight;
+        }
+        return sum + x * v * h.weight;
+    }
+    sum
+}
+
+// The totals of all positions, slot by slot in listing order, k and then j: of a few bands this is done before lists are made.
+fn fill_plain(
+    h: Shared,
+    weights: Weights,
+    n: usize,
+    seconds: [Band; 24],
+    thirds: [Band; 24],
+    flags: &[u8],
+    first: &[f64],
+    second: &[f64],
+    strengths: &[f64],
+    totals: &mut [f64],
+)
+    requires { ⌜ Sized weights n (length (now totals)) (now flags) (now first) (now second) (now strengths) ⌝ }
+    ensures { λ _. ⌜ now (totals .exit) ≡ table (length (now (totals .entry))) (λ b. bandTotal h n (Ise.block weights b) b seconds thirds (now (flags .entry)) (now (first .entry)) (now (second .entry)) (now (strengths .entry))) ⌝ }
+{
+    for b in 0..totals.len() {
+        let c = block_of(weights, b);
+        let mut total = 0.0;
+        for k in 0..n {
+            let q = thirds[k];
+            for j in 0..n {
+                let p = (c * n + j) * n + k;
+                let s = (b * n + j) * n + k;
+                total = add_slot(
+                    total,
+                    h,
+                    flags[p],
+                    seconds[j],
+                    q,
+                    first[p],
+                    second[p],
+                    strengths[s],
+                );
+            }
+        }
+        totals[b] = total;
+    }
+}
+
 // The totals of one triplet, of bands = B. There are as many as totals is long.
 pub fn write_totals(
     weights: Weights,
@@ -446,8 +548,8 @@ pub fn write_totals(
         cutoff: cutoff,
         weight: std::num::nearest_i64_to_f64(weight),
     };
-    if bands <= 12 {
-        fill_few(
+    if bands <= 6 {
+        fill_plain(
             h,
             weights,
             bands,
@@ -460,7 +562,7 @@ pub fn write_totals(
             totals,
         );
     } else {
-        fill_many(
+        fill_lists(
             h,
             weights,
             bands,

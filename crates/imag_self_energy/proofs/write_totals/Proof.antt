@@ -126,11 +126,11 @@ loop-again c =
 nearest-i64-to-f64-requires : tie.Need-nearest-i64-to-f64-requires Inv-loop μ-loop
 nearest-i64-to-f64-requires c κs = search needs
 
-fill-few-requires : tie.Need-fill-few-requires Inv-loop μ-loop
-fill-few-requires c κs = (c .before .if1 .taken, c .before .before .before .before .before .before .before .before .before .before .before .before .before .before .before .before .before .pre .0)
+fill-plain-requires : tie.Need-fill-plain-requires Inv-loop μ-loop
+fill-plain-requires c κs = c .before .before .before .before .before .before .before .before .before .before .before .before .before .before .before .before .before .pre .0
 
-fill-many-requires : tie.Need-fill-many-requires Inv-loop μ-loop
-fill-many-requires c κs = c .before .before .before .before .before .before .before .before .before .before .before .before .before .before .before .before .before .pre .0
+fill-lists-requires : tie.Need-fill-lists-requires Inv-loop μ-loop
+fill-lists-requires c κs = c .before .before .before .before .before .before .before .before .before .before .before .before .before .before .before .before .before .pre .0
 
 -- all bands are held, and the weight is cast: the sums are the definition's totals
 all-held : (c : tie.After-nearest-i64-to-f64 Inv-loop μ-loop)
@@ -151,13 +151,13 @@ same-length : tie.Need-same-length Inv-loop μ-loop
 same-length c = search needs
 
 returns : tie.Need-returns Inv-loop μ-loop
-returns c = c .before .before .fill-few .ensures ∙ all-held (c .before .before .before .before .before)
+returns c = c .before .before .fill-plain .ensures ∙ all-held (c .before .before .before .before .before)
 
 same-length-2 : tie.Need-same-length-2 Inv-loop μ-loop
 same-length-2 c = search needs
 
 returns-2 : tie.Need-returns-2 Inv-loop μ-loop
-returns-2 c = c .before .before .fill-many .ensures ∙ all-held (c .before .before .before .before .before)
+returns-2 c = c .before .before .fill-lists .ensures ∙ all-held (c .before .before .before .before .before)
 
 pub write-totals-spec : {M : Type 1} → statement M
 write-totals-spec =
@@ -185,8 +185,8 @@ write-totals-spec =
     loop-less
     loop-again
     nearest-i64-to-f64-requires
-    fill-few-requires
-    fill-many-requires
+    fill-plain-requires
+    fill-lists-requires
     same-length
     returns
     same-length-2
