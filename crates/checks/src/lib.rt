@@ -56,7 +56,7 @@ fn eight_finite(s: &[f64], i: usize) -> bool
 }
 
 // The entries before the answer are finite, as far as they come in eights. Eight sums, each of every eighth entry,
-// tell it three times as fast as a test of each: a sum is finite only if all that it adds are. Where a sum is not,
+// tell it in less time than a test of each: a sum is finite only if all that it adds are. Where a sum is not,
 // it may have grown too large, and nothing is told.
 fn summed_eights(s: &[f64]) -> usize
     ensures { λ r. ⌜ Passed (λ k. finite (at (now (s .entry)) k)) (length (now (s .entry))) r ⌝ }
