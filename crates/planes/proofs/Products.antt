@@ -1,9 +1,12 @@
 -- Products of counts: places in rows of n numbers.
 use mathlib.Core.Path.{_≡_, sym, ap, _∙_}
+use mathlib.Core.List.{List}
+use lib.ListN.{length, length-take, length-drop}
 use Prim.Native.Nat.{ℕ, _+_, _*_, _/_, _%_, _<_, _≤_}
 use native.Mathlib.Nat.{suc-mul, mul-one, mul-le-mul-left, mul-le-mul-right}
 use native.Mathlib.Numerals.{add-one}
 use native.Mathlib.Omega.{arith}
+use Rattle.phonon.specs.Sets.{part}
 use Rattle.phonon.proofs.Laws.{div-of, mod-of}
 
 -- row i ends within m rows
@@ -24,3 +27,7 @@ row-same n i j p q e = sym (div-of n p i) ∙ ap (λ (x : ℕ). x / n) e ∙ div
 
 pub place-same : (n i j : ℕ) {a b : ℕ} → a < n → b < n → i * n + a ≡ j * n + b → a ≡ b
 place-same n i j p q e = sym (mod-of n p i) ∙ ap (λ (x : ℕ). x % n) e ∙ mod-of n q j
+
+-- row g of a slice has n numbers
+pub part-length : {A : Type 0} (n g : ℕ) (l : List A) → g * n + n ≤ length l → length (part n g l) ≡ n
+part-length n g l h = simp (length-take, length-drop) (omega arith)

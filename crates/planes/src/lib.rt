@@ -1,10 +1,14 @@
-// Complex numbers in two planes of a slice: the real part of number k at off + k, the imaginary part at off + d + k.
+// What stands where in a slice.
 use phonon::Complex;
 ghost use mathlib.Core.Path.{_≡_};
-ghost use Prim.Native.Nat.{_+_, _<_};
+ghost use Prim.Native.Nat.{_+_, _*_, _<_, _≤_};
 ghost use lib.ListN.{length};
 ghost use Rattle.phonon.specs.Number.{index};
+ghost use Rattle.phonon.specs.Sets.{part};
+ghost use Rattle.phonon.specs.Limits.{workLength};
 ghost use Rattle.planes.specs.Split.{split, putSplit};
+
+// ---- complex numbers in two planes: the real part of number k at off + k, the imaginary part at off + d + k
 
 pub fn get_split(x: &[f64], off: usize, d: usize, k: usize) -> Complex
     requires { ⌜ off + d + k < length (now x) ⌝ }
@@ -24,6 +28,8 @@ pub fn put_split(w: &mut [f64], off: usize, d: usize, k: usize, z: Complex)
     w[off + d + k] = z.im;
 }
 
+// ---- indices and parts
+
 // A signed number as an index. A negative one, which no accepted set has, gives 0.
 pub fn index_of(x: i64) -> usize
     ensures { λ r. ⌜ r ≡ index x ⌝ }
@@ -32,4 +38,31 @@ pub fn index_of(x: i64) -> usize
         return 0;
     }
     x as usize
+}
+
+// Part g of a slice that is cut into parts of n numbers.
+pub fn part_of(s: &[f64], g: usize, n: usize) -> &[f64]
+    requires { ⌜ (g + 1) * n ≤ length (now s) ⌝ }
+    ensures { λ r. ⌜ (now r ≡ part n g (now (s .entry))) × (length (now r) ≡ n) ⌝ }
+{
+    let start = g * n;
+    let end = start + n;
+    &s[start..end]
+}
+
+// The frequencies of nb bands at a leg's grid point g: the caller's own stretch, uncopied.
+pub fn leg_frequencies(frequencies: &[f64], g: usize, nb: usize) -> &[f64]
+    requires { ⌜ (g + 1) * nb ≤ length (now frequencies) ⌝ }
+    ensures { λ r. ⌜ (now r ≡ part nb g (now (frequencies .entry))) × (length (now r) ≡ nb) ⌝ }
+{
+    part_of(frequencies, g, nb)
+}
+
+// W, the used part of the work buffer, of np atoms and ns supercell atoms.
+pub fn work_length(np: usize, ns: usize) -> usize
+    requires { ⌜ (np ≤ 65536) × (ns ≤ 65536) ⌝ }
+    ensures { λ r. ⌜ r ≡ workLength np ns ⌝ }
+{
+    let square = np * np;
+    135 * (square * np) + 54 * square + 6 * np * ns + 8 * np
 }
