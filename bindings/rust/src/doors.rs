@@ -1,8 +1,8 @@
 //! The four functions.
 
-use crate::raw;
+use crate::flat::{self, FlatTables, FlatTotals};
 use crate::refusal::Refusal;
-use crate::sets::{JoinedSet, ListSet, TotalsSet, TripletSet};
+use crate::sets::{JoinedSet, ListSet, Tables, TotalsSet, TripletSet};
 
 /// The strengths of one triplet.
 ///
@@ -61,58 +61,13 @@ pub fn get_interaction_at_triplet(
     strengths: &mut [f64],
     work: &mut [f64],
 ) -> Result<(), Refusal> {
-    let t = &set.tables;
-    // Safety: each pointer goes with the length of its own slice, which outlives the call, and those that are written
-    // are borrowed by nobody else. The function has no precondition.
-    answer(unsafe {
-        raw::wirambolo_get_interaction_at_triplet(
-            t.measures.atoms,
-            t.measures.supercell,
-            t.measures.first,
-            t.measures.grid,
-            t.measures.vectors,
-            t.settings.anchoring as u8,
-            t.settings.cutoff,
-            t.form as u8,
-            t.symmetry as u8,
-            t.mesh.as_ptr(),
-            t.mesh.len(),
-            t.matrix.as_ptr(),
-            t.matrix.len(),
-            set.triplet.as_ptr(),
-            set.triplet.len(),
-            t.addresses.as_ptr(),
-            t.addresses.len(),
-            t.vectors.as_ptr(),
-            t.vectors.len(),
-            t.multiplicity.as_ptr(),
-            t.multiplicity.len(),
-            t.p2s.as_ptr(),
-            t.p2s.len(),
-            t.s2p.as_ptr(),
-            t.s2p.len(),
-            t.masses.as_ptr(),
-            t.masses.len(),
-            t.bands.as_ptr(),
-            t.bands.len(),
-            t.frequencies.as_ptr(),
-            t.frequencies.len(),
-            t.eigenvectors.as_ptr(),
-            t.eigenvectors.len(),
-            t.shortest.as_ptr(),
-            t.shortest.len(),
-            t.nonzero.as_ptr(),
-            t.nonzero.len(),
-            t.constants.as_ptr(),
-            t.constants.len(),
-            set.flags.as_ptr(),
-            set.flags.len(),
-            strengths.as_mut_ptr(),
-            strengths.len(),
-            work.as_mut_ptr(),
-            work.len(),
-        )
-    })
+    answer(flat::get_interaction_at_triplet(
+        &flat_tables(&set.tables),
+        &set.triplet,
+        set.flags,
+        strengths,
+        work,
+    ))
 }
 
 /// The strengths of a list of triplets.
@@ -144,59 +99,14 @@ pub fn get_interaction(
     strengths: &mut [f64],
     work: &mut [f64],
 ) -> Result<(), Refusal> {
-    let t = &set.tables;
-    let points = set.triplets.as_flattened();
-    // Safety: as in `get_interaction_at_triplet`.
-    answer(unsafe {
-        raw::wirambolo_get_interaction(
-            t.measures.atoms,
-            t.measures.supercell,
-            t.measures.first,
-            t.measures.grid,
-            t.measures.vectors,
-            t.settings.anchoring as u8,
-            t.settings.cutoff,
-            t.form as u8,
-            t.symmetry as u8,
-            t.mesh.as_ptr(),
-            t.mesh.len(),
-            t.matrix.as_ptr(),
-            t.matrix.len(),
-            set.triplets.len(),
-            points.as_ptr(),
-            points.len(),
-            t.addresses.as_ptr(),
-            t.addresses.len(),
-            t.vectors.as_ptr(),
-            t.vectors.len(),
-            t.multiplicity.as_ptr(),
-            t.multiplicity.len(),
-            t.p2s.as_ptr(),
-            t.p2s.len(),
-            t.s2p.as_ptr(),
-            t.s2p.len(),
-            t.masses.as_ptr(),
-            t.masses.len(),
-            t.bands.as_ptr(),
-            t.bands.len(),
-            t.frequencies.as_ptr(),
-            t.frequencies.len(),
-            t.eigenvectors.as_ptr(),
-            t.eigenvectors.len(),
-            t.shortest.as_ptr(),
-            t.shortest.len(),
-            t.nonzero.as_ptr(),
-            t.nonzero.len(),
-            t.constants.as_ptr(),
-            t.constants.len(),
-            set.flags.as_ptr(),
-            set.flags.len(),
-            strengths.as_mut_ptr(),
-            strengths.len(),
-            work.as_mut_ptr(),
-            work.len(),
-        )
-    })
+    answer(flat::get_interaction(
+        &flat_tables(&set.tables),
+        set.triplets.len(),
+        set.triplets.as_flattened(),
+        set.flags,
+        strengths,
+        work,
+    ))
 }
 
 /// Totals alone: the totals of one triplet, from strengths that are handed in.
@@ -237,32 +147,19 @@ pub fn get_interaction(
 /// # Ok::<(), Refusal>(())
 /// ```
 pub fn imag_self_energy_at_triplet(set: &TotalsSet<'_>, totals: &mut [f64]) -> Result<(), Refusal> {
-    // Safety: as in `get_interaction_at_triplet`.
-    answer(unsafe {
-        raw::wirambolo_imag_self_energy_at_triplet(
-            set.measures.atoms,
-            set.measures.first,
-            set.measures.grid,
-            set.weights as u8,
-            set.triplet.as_ptr(),
-            set.triplet.len(),
-            set.frequencies.as_ptr(),
-            set.frequencies.len(),
-            set.cutoff,
-            set.flags.as_ptr(),
-            set.flags.len(),
-            set.strengths.as_ptr(),
-            set.strengths.len(),
-            set.bath.weight,
-            set.bath.temperature,
-            set.first_weights.as_ptr(),
-            set.first_weights.len(),
-            set.second_weights.as_ptr(),
-            set.second_weights.len(),
-            totals.as_mut_ptr(),
-            totals.len(),
-        )
-    })
+    let flat = FlatTotals {
+        measures: set.measures,
+        weights: set.weights as u8,
+        triplet: &set.triplet,
+        frequencies: set.frequencies,
+        cutoff: set.cutoff,
+        flags: set.flags,
+        strengths: set.strengths,
+        bath: set.bath,
+        first_weights: set.first_weights,
+        second_weights: set.second_weights,
+    };
+    answer(flat::imag_self_energy_at_triplet(&flat, totals))
 }
 
 /// The strengths and the totals of one triplet.
@@ -283,65 +180,41 @@ pub fn joined_at_triplet(
     totals: &mut [f64],
     work: &mut [f64],
 ) -> Result<(), Refusal> {
-    let t = &set.tables;
-    // Safety: as in `get_interaction_at_triplet`.
-    answer(unsafe {
-        raw::wirambolo_joined_at_triplet(
-            t.measures.atoms,
-            t.measures.supercell,
-            t.measures.first,
-            t.measures.grid,
-            t.measures.vectors,
-            t.settings.anchoring as u8,
-            t.settings.cutoff,
-            t.form as u8,
-            t.symmetry as u8,
-            t.mesh.as_ptr(),
-            t.mesh.len(),
-            t.matrix.as_ptr(),
-            t.matrix.len(),
-            set.triplet.as_ptr(),
-            set.triplet.len(),
-            t.addresses.as_ptr(),
-            t.addresses.len(),
-            t.vectors.as_ptr(),
-            t.vectors.len(),
-            t.multiplicity.as_ptr(),
-            t.multiplicity.len(),
-            t.p2s.as_ptr(),
-            t.p2s.len(),
-            t.s2p.as_ptr(),
-            t.s2p.len(),
-            t.masses.as_ptr(),
-            t.masses.len(),
-            t.bands.as_ptr(),
-            t.bands.len(),
-            t.frequencies.as_ptr(),
-            t.frequencies.len(),
-            t.eigenvectors.as_ptr(),
-            t.eigenvectors.len(),
-            t.shortest.as_ptr(),
-            t.shortest.len(),
-            t.nonzero.as_ptr(),
-            t.nonzero.len(),
-            t.constants.as_ptr(),
-            t.constants.len(),
-            set.flags.as_ptr(),
-            set.flags.len(),
-            set.bath.weight,
-            set.bath.temperature,
-            set.first_weights.as_ptr(),
-            set.first_weights.len(),
-            set.second_weights.as_ptr(),
-            set.second_weights.len(),
-            strengths.as_mut_ptr(),
-            strengths.len(),
-            totals.as_mut_ptr(),
-            totals.len(),
-            work.as_mut_ptr(),
-            work.len(),
-        )
-    })
+    answer(flat::joined_at_triplet(
+        &flat_tables(&set.tables),
+        &set.triplet,
+        set.flags,
+        set.bath,
+        set.first_weights,
+        set.second_weights,
+        strengths,
+        totals,
+        work,
+    ))
+}
+
+fn flat_tables<'a>(t: &'a Tables<'_>) -> FlatTables<'a> {
+    FlatTables {
+        measures: t.measures,
+        anchoring: t.settings.anchoring as u8,
+        cutoff: t.settings.cutoff,
+        form: t.form as u8,
+        symmetry: t.symmetry as u8,
+        mesh: &t.mesh,
+        matrix: &t.matrix,
+        addresses: t.addresses,
+        vectors: t.vectors,
+        multiplicity: t.multiplicity,
+        p2s: t.p2s,
+        s2p: t.s2p,
+        masses: t.masses,
+        bands: t.bands,
+        frequencies: t.frequencies,
+        eigenvectors: t.eigenvectors,
+        shortest: t.shortest,
+        nonzero: t.nonzero,
+        constants: t.constants,
+    }
 }
 
 /// The library's answer: 0 is accepted. It gives no number but those of `Refusal`.

@@ -25,7 +25,7 @@ pub enum Refusal {
     Bath = 8,
     /// A phase is beyond ±1,048,576 or not finite.
     Phase = 9,
-    /// A choice is neither 0 nor 1, or mesh, matrix or triplet has not 3, 9, 3 entries. Only calls of [`raw`](crate::raw) can be
+    /// A choice is neither 0 nor 1, or mesh, matrix or triplet has not 3, 9, 3 entries. Only calls of [`flat`](crate::flat) can be
     /// answered so: the types of the safe functions admit no such call.
     Unreadable = 255,
 }

@@ -3,6 +3,7 @@
 mod common;
 
 use common::{cell_u, crystal, crystal_list, Cell, Left};
+use wirambolo::flat::{self, FlatTotals};
 use wirambolo::*;
 
 type Change = fn(&mut Cell);
@@ -267,38 +268,31 @@ fn numbers_and_words() {
     );
 }
 
-/// A choice that is not known, and a triplet of two entries: only the raw function can be called so.
+/// A choice that is not known, and a triplet of two entries: only `flat` can be called so.
 #[test]
 fn unreadable() {
-    let (points, numbers, bytes) = ([0; 3], [0.0; 27], [0; 27]);
     for (weights, length) in [(2, 3), (0, 2)] {
-        let mut totals = [-1.0; 3];
-        // Safety: each pointer goes with at most the length of its own array; the totals are lent once.
-        let answer = unsafe {
-            raw::wirambolo_imag_self_energy_at_triplet(
-                1,
-                3,
-                1,
-                weights,
-                points.as_ptr(),
-                length,
-                numbers.as_ptr(),
-                3,
-                0.0,
-                bytes.as_ptr(),
-                27,
-                numbers.as_ptr(),
-                27,
-                1,
-                0.0,
-                numbers.as_ptr(),
-                27,
-                numbers.as_ptr(),
-                27,
-                totals.as_mut_ptr(),
-                3,
-            )
+        let set = FlatTotals {
+            measures: TotalsMeasures {
+                atoms: 1,
+                first: 3,
+                grid: 1,
+            },
+            weights,
+            triplet: &[0; 3][..length],
+            frequencies: &[0.0; 3],
+            cutoff: 0.0,
+            flags: &[0; 27],
+            strengths: &[0.0; 27],
+            bath: Bath {
+                weight: 1,
+                temperature: 0.0,
+            },
+            first_weights: &[0.0; 27],
+            second_weights: &[0.0; 27],
         };
+        let mut totals = [-1.0; 3];
+        let answer = flat::imag_self_energy_at_triplet(&set, &mut totals);
         assert_eq!(Refusal::from_number(answer), Some(Refusal::Unreadable));
         assert_eq!(totals, [-1.0; 3]);
     }

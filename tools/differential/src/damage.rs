@@ -254,9 +254,29 @@ fn mislong<T: Copy>(random: &mut Random, table: &mut Vec<T>, filler: T) {
     resize(table, wrong as u128, filler);
 }
 
+/// The tables and buffers of the doors of the strengths; the work buffer counts twice.
+const LENGTHS: [&str; 16] = [
+    "addresses",
+    "vectors",
+    "multiplicity",
+    "p2s",
+    "s2p",
+    "masses",
+    "bands",
+    "frequencies",
+    "eigenvectors",
+    "all-shortest",
+    "nonzero",
+    "flags",
+    "force constants",
+    "strengths",
+    "work",
+    "work",
+];
+
 fn length(random: &mut Random, call: &mut Call) -> String {
-    let names: &[&str] = match call.door {
-        Door::Totals => &[
+    let names: Vec<&str> = match call.door {
+        Door::Totals => vec![
             "frequencies",
             "flags",
             "strengths read",
@@ -265,53 +285,17 @@ fn length(random: &mut Random, call: &mut Call) -> String {
             "totals",
             "form of the weights",
         ],
-        Door::Joined => &[
-            "addresses",
-            "vectors",
-            "multiplicity",
-            "p2s",
-            "s2p",
-            "masses",
-            "bands",
-            "frequencies",
-            "eigenvectors",
-            "all-shortest",
-            "nonzero",
-            "flags",
-            "force constants",
-            "strengths",
-            "work",
-            "work",
-            "first weights",
-            "second weights",
-            "totals",
-            "form",
-        ],
-        _ => &[
-            "addresses",
-            "vectors",
-            "multiplicity",
-            "p2s",
-            "s2p",
-            "masses",
-            "bands",
-            "frequencies",
-            "eigenvectors",
-            "all-shortest",
-            "nonzero",
-            "flags",
-            "force constants",
-            "strengths",
-            "work",
-            "work",
-            "triplets",
-            "form",
-        ],
+        Door::Joined => [
+            &LENGTHS[..],
+            &["first weights", "second weights", "totals", "form"],
+        ]
+        .concat(),
+        Door::Triplet | Door::List => [&LENGTHS[..], &["triplets", "form"]].concat(),
     };
     // A second wrong length goes to another table, lest it mend the first.
-    let mut name = random.pick(names);
+    let mut name = random.pick(&names);
     while call.planted.iter().any(|fault| fault.1.ends_with(name)) {
-        name = random.pick(names);
+        name = random.pick(&names);
     }
     let work = work_size(&call.set.strengths.measures) as usize;
     let set = &mut call.set;

@@ -39,7 +39,7 @@ impl Hunt {
 }
 
 /// Looks for every mistake at each of its doors in the first `sets` sets of the seed.
-pub fn hunt(seed: u64, sets: u64, progress: impl Fn(&str)) -> Vec<Hunt> {
+pub fn hunt(seed: u64, sets: u64, mut progress: impl FnMut(&str)) -> Vec<Hunt> {
     let mut hunts = Vec::new();
     for fault in FAULTS {
         for door in fault.doors.split(' ') {

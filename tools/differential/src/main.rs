@@ -1,21 +1,20 @@
-//! Usage: differential [--only INDEX] [--trace] SEED N [triplet | list | totals | joined | key ...]
+//! Usage: differential [--only INDEX] [--trace] [--threads T] SEED N [triplet | list | totals | joined | key ...]
 //!        differential --faults SEED N
 //!        differential --replay FOLDER SEED N
 
 use differential::call::{Call, Door};
-use differential::cartons::{self, CartonKind};
+use differential::cartons;
 use differential::compare::{difference, expected, work};
 use differential::doors::{Doors, ORACLE};
 use differential::generate;
 use differential::key;
+use differential::progress::Progress;
 use differential::replay;
-use differential::tally::Tally;
-use std::cell::Cell;
-use std::io::Write;
+use differential::tally::{CartonTally, Tally};
+use differential::threads;
 use std::process::ExitCode;
-use std::time::{Duration, Instant};
 
-const USAGE: &str = "usage: differential [--only INDEX] [--trace] SEED N [triplet | list | totals | joined | key ...]
+const USAGE: &str = "usage: differential [--only INDEX] [--trace] [--threads T] SEED N [triplet | list | totals | joined | key ...]
        differential --faults SEED N
        differential --replay FOLDER SEED N";
 
@@ -28,6 +27,7 @@ struct Wanted {
     replay: Option<String>,
     only: Option<u64>,
     trace: bool,
+    threads: Option<usize>,
     seed: u64,
     sets: u64,
     doors: Vec<Door>,
@@ -43,6 +43,7 @@ fn wanted(mut args: impl Iterator<Item = String>) -> Option<Wanted> {
             "--replay" => wanted.replay = Some(args.next()?),
             "--trace" => wanted.trace = true,
             "--only" => wanted.only = Some(args.next()?.parse().ok()?),
+            "--threads" => wanted.threads = Some(args.next()?.parse().ok().filter(|&n| n > 0)?),
             "key" => wanted.key = true,
             word if numbers.len() < 2 => numbers.push(word.parse().ok()?),
             word => wanted.doors.push(Door::named(word)?),
@@ -51,39 +52,9 @@ fn wanted(mut args: impl Iterator<Item = String>) -> Option<Wanted> {
     [wanted.seed, wanted.sets] = numbers.try_into().ok()?;
     if wanted.doors.is_empty() && !wanted.key {
         wanted.doors = Door::ALL.to_vec();
+        wanted.key = true;
     }
     Some(wanted)
-}
-
-/// One line on standard error, written over a few times a second.
-struct Progress {
-    shown: Cell<Option<Instant>>,
-}
-
-impl Progress {
-    fn new() -> Progress {
-        Progress {
-            shown: Cell::new(None),
-        }
-    }
-
-    fn show(&self, text: &str) {
-        let now = Instant::now();
-        let due = self
-            .shown
-            .get()
-            .is_none_or(|last| now - last > Duration::from_millis(200));
-        if due {
-            eprint!("\r{text}\x1b[K");
-            let _ = std::io::stderr().flush();
-            self.shown.set(Some(now));
-        }
-    }
-
-    fn clear(&self) {
-        eprint!("\r\x1b[K");
-        self.shown.set(None);
-    }
 }
 
 fn main() -> ExitCode {
@@ -107,9 +78,10 @@ fn main() -> ExitCode {
         println!("{}", tally.report());
     }
     if wanted.key {
-        let (cartons, wrong) = compare_key(&wanted);
-        compared += cartons;
-        mismatches += wrong;
+        let tally = compare_key(&wanted);
+        compared += tally.cartons();
+        mismatches += tally.mismatches;
+        println!("{}", tally.report());
     }
     println!("compared {compared}, mismatches {mismatches}");
     ExitCode::from(u8::from(mismatches > 0))
@@ -130,13 +102,13 @@ fn write_replay(folder: &str, wanted: &Wanted) -> ExitCode {
 }
 
 #[cfg(feature = "library")]
-fn doors() -> &'static dyn Doors {
+fn doors() -> &'static (dyn Doors + Sync) {
     &differential::library::Library
 }
 
 /// Without the library the oracle stands in for it.
 #[cfg(not(feature = "library"))]
-fn doors() -> &'static dyn Doors {
+fn doors() -> &'static (dyn Doors + Sync) {
     println!("the oracle stands in for the library");
     &ORACLE
 }
@@ -148,41 +120,54 @@ fn indices(wanted: &Wanted) -> std::ops::Range<u64> {
     }
 }
 
+/// How many threads share the indices; a trace has them in order.
+fn threads_of(wanted: &Wanted) -> usize {
+    if wanted.trace {
+        return 1;
+    }
+    wanted.threads.unwrap_or_else(threads::of_machine)
+}
+
 fn compare_doors(wanted: &Wanted) -> Tally {
     let doors = doors();
-    let progress = Progress::new();
-    let mut tally = Tally::default();
+    let mut whole = Tally::default();
     for &door in &wanted.doors {
-        let before = tally.mismatches;
-        for index in indices(wanted) {
-            if wanted.trace {
-                eprintln!("{} {index}", door.name());
-            } else {
-                progress.show(&format!(
-                    "{} {} of {}, mismatches {}",
-                    door.name(),
-                    index + 1,
-                    wanted.sets,
-                    tally.mismatches
-                ));
-            }
-            let call = generate::call(wanted.seed, door, index);
-            let oracle = expected(&call);
-            let outcome = work(doors, &call);
-            tally.note(&call, oracle.answer);
-            if let Some(how) = difference(&call, &oracle, &outcome) {
-                tally.mismatches += 1;
-                if tally.mismatches - before <= PRINTED {
-                    progress.clear();
-                    print_mismatch(wanted.seed, index, &call, oracle.answer, &how);
+        let progress = Progress::of(door.name(), indices(wanted));
+        let tallies = threads::share(
+            indices(wanted),
+            threads_of(wanted),
+            |tally: &mut Tally, index| {
+                if wanted.trace {
+                    eprintln!("{} {index}", door.name());
                 }
-            } else if wanted.only.is_some() {
-                println!("{} answers {}, no mismatch", describe(&call), oracle.answer);
-            }
-        }
+                let call = generate::call(wanted.seed, door, index);
+                let oracle = expected(&call);
+                let outcome = work(doors, &call);
+                tally.note(&call, oracle.answer);
+                let how = difference(&call, &oracle, &outcome);
+                if let Some(how) = &how {
+                    tally.mismatches += 1;
+                    if progress.wrong() <= PRINTED {
+                        progress.print(&mismatch(wanted.seed, index, &call, oracle.answer, how));
+                    }
+                } else if wanted.only.is_some() {
+                    progress.print(&format!(
+                        "{} answers {}, no mismatch",
+                        describe(&call),
+                        oracle.answer
+                    ));
+                }
+                if !wanted.trace {
+                    progress.step();
+                }
+            },
+        );
         progress.clear();
+        for tally in &tallies {
+            whole.add(tally);
+        }
     }
-    tally
+    whole
 }
 
 fn describe(call: &Call) -> String {
@@ -211,82 +196,59 @@ fn describe(call: &Call) -> String {
     text
 }
 
-fn print_mismatch(seed: u64, index: u64, call: &Call, answer: u8, how: &str) {
-    println!("MISMATCH seed {seed}, index {index}: {}", describe(call));
-    println!("  the oracle answers {answer}; {how}");
-    println!(
-        "  again: run --only {index} {seed} {} {}",
+fn mismatch(seed: u64, index: u64, call: &Call, answer: u8, how: &str) -> String {
+    format!(
+        "MISMATCH seed {seed}, index {index}: {}\n  the oracle answers {answer}; {how}\n  again: run --only {index} {seed} {} {}",
+        describe(call),
         index + 1,
         call.door.name()
-    );
-}
-
-/// The refusal that a text of `key` names, or 0.
-fn printed_number(text: &[u8]) -> usize {
-    let text = String::from_utf8_lossy(text);
-    text.strip_prefix("refused ")
-        .and_then(|rest| rest.trim_end().parse().ok())
-        .map_or(0, |number: usize| number.min(12))
+    )
 }
 
 /// Runs the program named by KEY; without it the oracle's `key` stands in.
-fn compare_key(wanted: &Wanted) -> (u64, u64) {
+fn compare_key(wanted: &Wanted) -> CartonTally {
     let program = std::env::var("KEY").ok();
     if program.is_none() {
         println!("the oracle stands in for the program key");
     }
-    let progress = Progress::new();
-    let mut mismatches = 0;
-    let mut answers = [0u64; 13];
-    let mut kinds = [0u64; 8];
-    for index in indices(wanted) {
-        progress.show(&format!(
-            "key {} of {}, mismatches {mismatches}",
-            index + 1,
-            wanted.sets
-        ));
-        let carton = cartons::carton(wanted.seed, index);
-        let oracle = oracle::carton::key(&carton.bytes);
-        answers[printed_number(&oracle)] += 1;
-        kinds[carton.kind as usize] += 1;
-        let printed = match &program {
-            Some(program) => key::run(program, &carton.bytes),
-            None => Ok((ORACLE.key)(&carton.bytes)),
-        };
-        if printed.as_ref() != Ok(&oracle) {
-            mismatches += 1;
-            if mismatches <= PRINTED {
-                progress.clear();
-                print_key_mismatch(wanted.seed, index, &carton, &oracle, printed);
+    let progress = Progress::of("key", indices(wanted));
+    let tallies = threads::share(
+        indices(wanted),
+        threads_of(wanted),
+        |tally: &mut CartonTally, index| {
+            let carton = cartons::carton(wanted.seed, index);
+            let oracle = oracle::carton::key(&carton.bytes);
+            let printed = match &program {
+                Some(program) => key::run(program, &carton.bytes),
+                None => Ok((ORACLE.key)(&carton.bytes)),
+            };
+            tally.note(carton.kind, &oracle);
+            if printed.as_ref() != Ok(&oracle) {
+                tally.mismatches += 1;
+                if progress.wrong() <= PRINTED {
+                    progress.print(&key_mismatch(wanted.seed, index, &carton, &oracle, printed));
+                }
             }
-        }
-    }
+            progress.step();
+        },
+    );
     progress.clear();
-    println!("key: accepted {}", answers[0]);
-    for (number, count) in answers.iter().enumerate().skip(1) {
-        println!("key: refused {number}: {count}");
+    let mut whole = CartonTally::default();
+    for tally in &tallies {
+        whole.add(tally);
     }
-    for kind in CartonKind::ALL {
-        println!("key: {}: {}", kind.name(), kinds[kind as usize]);
-    }
-    (indices(wanted).count() as u64, mismatches)
+    whole
 }
 
-fn print_key_mismatch(
+fn key_mismatch(
     seed: u64,
     index: u64,
     carton: &cartons::Carton,
     oracle: &[u8],
     printed: Result<Vec<u8>, String>,
-) {
-    println!(
-        "MISMATCH seed {seed}, index {index}: key, kind {:?}, {} bytes, damage {:?}",
-        carton.kind.name(),
-        carton.bytes.len(),
-        carton.damage
-    );
-    match printed {
-        Err(how) => println!("  the program {how}"),
+) -> String {
+    let how = match printed {
+        Err(how) => format!("the program {how}"),
         Ok(printed) => {
             let (a, b) = (
                 String::from_utf8_lossy(oracle),
@@ -297,14 +259,25 @@ fn print_key_mismatch(
                 .zip(b.lines())
                 .position(|(x, y)| x != y)
                 .unwrap_or(a.lines().count().min(b.lines().count()));
-            println!(
-                "  line {line}: oracle {:?}, program {:?}",
-                a.lines().nth(line).unwrap_or(""),
-                b.lines().nth(line).unwrap_or("")
-            );
+            // A program that is not key may print anything.
+            let start = |text: &str| -> String {
+                let line = text.lines().nth(line).unwrap_or("");
+                line.chars().take(80).collect()
+            };
+            format!(
+                "line {line}: oracle {:?}, program {:?}",
+                start(&a),
+                start(&b)
+            )
         }
-    }
-    println!("  again: run --only {index} {seed} {} key", index + 1);
+    };
+    format!(
+        "MISMATCH seed {seed}, index {index}: key, kind {:?}, {} bytes, damage {:?}\n  {how}\n  again: run --only {index} {seed} {} key",
+        carton.kind.name(),
+        carton.bytes.len(),
+        carton.damage,
+        index + 1
+    )
 }
 
 #[cfg(not(feature = "faults"))]
@@ -316,9 +289,9 @@ fn hunt_faults(_: &Wanted) -> ExitCode {
 /// Prints for each mistake the number of sets until each of its doors showed it; names those not found.
 #[cfg(feature = "faults")]
 fn hunt_faults(wanted: &Wanted) -> ExitCode {
-    let progress = Progress::new();
-    let hunts = differential::hunt::hunt(wanted.seed, wanted.sets, |text| progress.show(text));
-    progress.clear();
+    let mut line = differential::progress::Line::default();
+    let hunts = differential::hunt::hunt(wanted.seed, wanted.sets, |text| line.show(text));
+    line.clear();
     for group in hunts.chunk_by(|a, b| a.fault.name == b.fault.name) {
         print!("{}:", group[0].fault.name);
         for hunt in group {

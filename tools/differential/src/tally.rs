@@ -1,6 +1,7 @@
-//! Counts of what was compared: for each door the answers, the kinds and the planted faults.
+//! Counts of what was compared: for each door the answers, the kinds and the planted faults; for `key` what it prints, and the kinds of cartons.
 
 use crate::call::{Call, Door, Kind};
+use crate::cartons::CartonKind;
 use crate::doors::UNKNOWN;
 
 #[derive(Clone, Default)]
@@ -35,6 +36,20 @@ impl Tally {
             [(a, _), (b, _)] => tally.pairs[usize::from(a)][usize::from(b)] += 1,
             _ => (),
         }
+    }
+
+    /// Both counts together.
+    pub fn add(&mut self, other: &Tally) {
+        for (a, b) in self.doors.iter_mut().zip(&other.doors) {
+            a.sets += b.sets;
+            add(&mut a.answers, &b.answers);
+            add(&mut a.kinds, &b.kinds);
+            add(&mut a.alone, &b.alone);
+            for (c, d) in a.pairs.iter_mut().zip(&b.pairs) {
+                add(c, d);
+            }
+        }
+        self.mismatches += other.mismatches;
     }
 
     pub fn sets(&self) -> u64 {
@@ -103,5 +118,62 @@ impl Tally {
             text += "\n";
         }
         text
+    }
+}
+
+/// Cartons by the number that `key` prints, 0 for a key, and by kind.
+#[derive(Default)]
+pub struct CartonTally {
+    numbers: [u64; 13],
+    kinds: [u64; 8],
+    pub mismatches: u64,
+}
+
+impl CartonTally {
+    pub fn note(&mut self, kind: CartonKind, text: &[u8]) {
+        self.numbers[printed_number(text)] += 1;
+        self.kinds[kind as usize] += 1;
+    }
+
+    /// Both counts together.
+    pub fn add(&mut self, other: &CartonTally) {
+        add(&mut self.numbers, &other.numbers);
+        add(&mut self.kinds, &other.kinds);
+        self.mismatches += other.mismatches;
+    }
+
+    pub fn cartons(&self) -> u64 {
+        self.numbers.iter().sum()
+    }
+
+    pub fn report(&self) -> String {
+        let mut text = format!("{:10}{:>9}{:>9}", "", "cartons", "accepted");
+        for number in 1..=12 {
+            text += &format!("{number:>7}");
+        }
+        text += &format!("\n{:10}{:>9}", "key", self.cartons());
+        text += &format!("{:>9}", self.numbers[0]);
+        for count in &self.numbers[1..] {
+            text += &format!("{count:>7}");
+        }
+        text += &format!("\n\n{:26}{:>9}\n", "kind", "key");
+        for kind in CartonKind::ALL {
+            text += &format!("{:26}{:>9}\n", kind.name(), self.kinds[kind as usize]);
+        }
+        text
+    }
+}
+
+/// The refusal that a text of `key` names, or 0.
+fn printed_number(text: &[u8]) -> usize {
+    let text = String::from_utf8_lossy(text);
+    text.strip_prefix("refused ")
+        .and_then(|rest| rest.trim_end().parse().ok())
+        .map_or(0, |number: usize| number.min(12))
+}
+
+fn add(a: &mut [u64], b: &[u64]) {
+    for (x, y) in a.iter_mut().zip(b) {
+        *x += y;
     }
 }

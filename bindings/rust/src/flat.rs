@@ -1,0 +1,186 @@
+//! The four functions on numbers and slices, as the library takes them: choices are numbers and arrays are slices, so that a call can also be one
+//! that cannot be read, which is answered 255 ([`Refusal::Unreadable`](crate::Refusal::Unreadable)). For callers whose choices come as numbers,
+//! from a file or another language; the functions at the crate's root have types for them.
+//!
+//! The answer is 0 for an accepted set, else the number of a [`Refusal`](crate::Refusal), and then no buffer is changed.
+
+use crate::raw;
+use crate::sets::{Bath, Measures, TotalsMeasures};
+
+/// [`Tables`](crate::Tables) with choices as numbers and arrays as slices.
+#[derive(Clone, Copy, Debug, PartialEq)]
+#[allow(missing_docs)]
+pub struct FlatTables<'a> {
+    pub measures: Measures,
+    /// 0 plain, 1 averaged.
+    pub anchoring: u8,
+    pub cutoff: f64,
+    /// 0 compact, 1 full.
+    pub form: u8,
+    /// 0 off, 1 symmetrized.
+    pub symmetry: u8,
+    pub mesh: &'a [i64],
+    pub matrix: &'a [i64],
+    pub addresses: &'a [i64],
+    pub vectors: &'a [f64],
+    pub multiplicity: &'a [i64],
+    pub p2s: &'a [i64],
+    pub s2p: &'a [i64],
+    pub masses: &'a [f64],
+    pub bands: &'a [i64],
+    pub frequencies: &'a [f64],
+    pub eigenvectors: &'a [f64],
+    pub shortest: &'a [u8],
+    pub nonzero: &'a [u8],
+    pub constants: &'a [f64],
+}
+
+/// [`TotalsSet`](crate::TotalsSet) with the form of the weights as a number and the triplet as a slice.
+#[derive(Clone, Copy, Debug, PartialEq)]
+#[allow(missing_docs)]
+pub struct FlatTotals<'a> {
+    pub measures: TotalsMeasures,
+    /// 0 per slot, 1 at a frequency point.
+    pub weights: u8,
+    pub triplet: &'a [i64],
+    pub frequencies: &'a [f64],
+    pub cutoff: f64,
+    pub flags: &'a [u8],
+    pub strengths: &'a [f64],
+    pub bath: Bath,
+    pub first_weights: &'a [f64],
+    pub second_weights: &'a [f64],
+}
+
+/// Calls a function of [`raw`]: a slice after `&` or `&mut` passes as its pointer and its length, another argument as it is.
+macro_rules! call {
+    ($function:path; $($argument:tt)*) => { call!(@ $function, []; $($argument)*) };
+    (@ $function:path, [$($done:expr,)*];) => {
+        // Safety: each pointer goes with the length of its own slice, which outlives the call, and those that are written are
+        // borrowed by nobody else. The functions have no precondition.
+        unsafe { $function($($done),*) }
+    };
+    (@ $function:path, [$($done:expr,)*]; &mut $slice:expr, $($rest:tt)*) => {
+        call!(@ $function, [$($done,)* $slice.as_mut_ptr(), $slice.len(),]; $($rest)*)
+    };
+    (@ $function:path, [$($done:expr,)*]; &$slice:expr, $($rest:tt)*) => {
+        call!(@ $function, [$($done,)* $slice.as_ptr(), $slice.len(),]; $($rest)*)
+    };
+    (@ $function:path, [$($done:expr,)*]; $value:expr, $($rest:tt)*) => {
+        call!(@ $function, [$($done,)* $value,]; $($rest)*)
+    };
+}
+
+/// The same with the tables: `[..]` is what stands between the q matrix and the addresses, the rest what follows the force constants.
+macro_rules! call_with_tables {
+    ($function:path, $t:expr, [$($triplets:tt)*]; $($rest:tt)*) => {
+        call!(
+            $function;
+            $t.measures.atoms,
+            $t.measures.supercell,
+            $t.measures.first,
+            $t.measures.grid,
+            $t.measures.vectors,
+            $t.anchoring,
+            $t.cutoff,
+            $t.form,
+            $t.symmetry,
+            &$t.mesh,
+            &$t.matrix,
+            $($triplets)*
+            &$t.addresses,
+            &$t.vectors,
+            &$t.multiplicity,
+            &$t.p2s,
+            &$t.s2p,
+            &$t.masses,
+            &$t.bands,
+            &$t.frequencies,
+            &$t.eigenvectors,
+            &$t.shortest,
+            &$t.nonzero,
+            &$t.constants,
+            $($rest)*
+        )
+    };
+}
+
+/// One triplet.
+pub fn get_interaction_at_triplet(
+    t: &FlatTables<'_>,
+    triplet: &[i64],
+    flags: &[u8],
+    strengths: &mut [f64],
+    work: &mut [f64],
+) -> u8 {
+    call_with_tables!(
+        raw::wirambolo_get_interaction_at_triplet, t, [&triplet,];
+        &flags,
+        &mut strengths,
+        &mut work,
+    )
+}
+
+/// A list of so many triplets, three grid points each.
+pub fn get_interaction(
+    t: &FlatTables<'_>,
+    list: usize,
+    triplets: &[i64],
+    flags: &[u8],
+    strengths: &mut [f64],
+    work: &mut [f64],
+) -> u8 {
+    call_with_tables!(
+        raw::wirambolo_get_interaction, t, [list, &triplets,];
+        &flags,
+        &mut strengths,
+        &mut work,
+    )
+}
+
+/// Totals alone.
+pub fn imag_self_energy_at_triplet(s: &FlatTotals<'_>, totals: &mut [f64]) -> u8 {
+    call!(
+        raw::wirambolo_imag_self_energy_at_triplet;
+        s.measures.atoms,
+        s.measures.first,
+        s.measures.grid,
+        s.weights,
+        &s.triplet,
+        &s.frequencies,
+        s.cutoff,
+        &s.flags,
+        &s.strengths,
+        s.bath.weight,
+        s.bath.temperature,
+        &s.first_weights,
+        &s.second_weights,
+        &mut totals,
+    )
+}
+
+/// One triplet and its totals joined.
+#[allow(clippy::too_many_arguments)]
+pub fn joined_at_triplet(
+    t: &FlatTables<'_>,
+    triplet: &[i64],
+    flags: &[u8],
+    bath: Bath,
+    first_weights: &[f64],
+    second_weights: &[f64],
+    strengths: &mut [f64],
+    totals: &mut [f64],
+    work: &mut [f64],
+) -> u8 {
+    call_with_tables!(
+        raw::wirambolo_joined_at_triplet, t, [&triplet,];
+        &flags,
+        bath.weight,
+        bath.temperature,
+        &first_weights,
+        &second_weights,
+        &mut strengths,
+        &mut totals,
+        &mut work,
+    )
+}
