@@ -3,6 +3,5 @@ pub mod Cases
 pub mod Laws
 pub mod Order
 pub mod TwoRuns
-pub mod ClosedCases
 pub mod Accepted
 pub mod Shares

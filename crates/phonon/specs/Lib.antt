@@ -15,4 +15,3 @@ pub mod Refusal
 pub mod Doors
 pub mod KeyCases
 pub mod Demand3
-pub mod ClosedCases

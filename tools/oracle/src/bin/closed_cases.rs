@@ -1,4 +1,4 @@
-//! What the Rust gives for the closed cases of crates/phonon/specs/ClosedCases.antt: the same made-up tables by the
+//! What the Rust gives for the closed cases of crates/closed_cases/specs/ClosedCases.antt: the same made-up tables by the
 //! same rules, worked by phonors itself. Each line is a case and the bits of its answer.
 
 use oracle::common::Cmplx;
