@@ -1,5 +1,5 @@
--- Measures of at most 6,048: no product and no sum of theirs wraps. A larger measure does not match the words of any file.
-use Prim.Native.Nat.{ℕ, _*_, _≤_, _<_}
+-- Measures of at most 6,048: no sum of their sizes wraps. A larger measure does not match the words of any file.
+use Prim.Native.Nat.{ℕ, _≤_, _<_}
 use mathlib.Core.Bool.{true, false, _&&_}
 use mathlib.Core.List.{List}
 use mathlib.Core.Path.{_≡_, refl, sym, _∙_}
@@ -7,14 +7,14 @@ use lib.Dec.{leb, eqb}
 use lib.ListN.{length}
 use borrow.Author.Tests.{leb-true, le-leb, lt-ltb, ne-eqb}
 use native.Mathlib.Decide.{decLe}
-use native.Mathlib.Nat.{mul-le-mul}
 use native.Mathlib.Omega.{arith}
 use Rattle.phonon.specs.declared.Measures.{Measures}
 use Rattle.phonon.specs.declared.Sizes.{Sizes}
 use Rattle.phonon.specs.declared.Form.{Form}
-use Rattle.phonon.specs.declared.Form.the-variants.{Compact, Full}
-use Rattle.phonon.specs.Limits.{rowsOf, sizesOf}
+use Rattle.phonon.specs.Limits.{sizesOf}
+use Rattle.checks.specs.Modest.{Modest}
 use Rattle.checks.proofs.Laws.{and-left, and-right}
+use Rattle.checks.proofs.SizeLaws.{products}
 use Rattle.carton.specs.declared.heading.Places.{Places}
 use Rattle.carton.specs.Heading.{filled, placesWith, placesOf, measuresNatural, wordsMatch}
 use Rattle.carton.specs.Fitted.{Ordered}
@@ -27,7 +27,7 @@ pub record Small (m : Measures) : Type 0 where
   pub grid : m .grid ≤ 6048
   pub vectors : m .vectors ≤ 6048
 
-pub small : (m : Measures) → smallOk m ≡ true → Small m
+small : (m : Measures) → smallOk m ≡ true → Small m
 unfolding smallOk
 small m e =
     let p = leb (m .atoms) 6048 in
@@ -51,63 +51,29 @@ unfolding smallOk
 is-small m h =
     rw (le-leb _ _ (h .atoms), le-leb _ _ (h .supercell), le-leb _ _ (h .first), le-leb _ _ (h .grid), le-leb _ _ (h .vectors)) refl
 
-pub rows-small : (m : Measures) (form : Form) → Small m → rowsOf form m ≤ 6048
-unfolding rowsOf
-rows-small m Compact h = h .atoms
-rows-small m Full h = h .supercell
-
--- ---- products, of P, S, F, G and the rows of the force constants
-
-pub record Products (p s f g r : ℕ) : Type 0 where
-  pub bands : 3 * p ≤ 18144
-  pub frequencies : g * (3 * p) ≤ 6048 * 18144
-  pub eigenvectors : g * (3 * p) * (3 * p) ≤ 6048 * 18144 * 18144
-  pub entries : s * p ≤ 6048 * 6048
-  pub atom-pairs : p * s ≤ 6048 * 6048
-  pub shortest : p * s * s ≤ 6048 * 6048 * 6048
-  pub row-pairs : r * s ≤ 6048 * 6048
-  pub nonzero : r * s * s ≤ 6048 * 6048 * 6048
-  pub row : f * (3 * p) ≤ 6048 * 18144
-  pub slots : f * (3 * p) * (3 * p) ≤ 6048 * 18144 * 18144
-
-pub products : (m : Measures) (r : ℕ) → Small m → r ≤ 6048 → Products (m .atoms) (m .supercell) (m .first) (m .grid) r
-products m r h k =
-    let bands : 3 * m .atoms ≤ 18144 = omega arith in
-    let frequencies = mul-le-mul (h .grid) bands in
-    let atom-pairs = mul-le-mul (h .atoms) (h .supercell) in
-    let row-pairs = mul-le-mul k (h .supercell) in
-    let row = mul-le-mul (h .first) bands in
-    record {
-      bands = bands;
-      frequencies = frequencies;
-      eigenvectors = mul-le-mul frequencies bands;
-      entries = mul-le-mul (h .supercell) (h .atoms);
-      atom-pairs = atom-pairs;
-      shortest = mul-le-mul atom-pairs (h .supercell);
-      row-pairs = row-pairs;
-      nonzero = mul-le-mul row-pairs (h .supercell);
-      row = row;
-      slots = mul-le-mul row bands;
-    }
+pub modest : (m : Measures) → smallOk m ≡ true → Modest m
+modest m e =
+    let h = small m e in
+    record { atoms = omega arith; supercell = omega arith; first = omega arith; grid = omega arith; vectors = omega arith }
 
 -- what the places are summed up of
 pub record Sized (m : Measures) (z : Sizes) : Type 0 where
-  pub measures : Small m
-  pub addresses : z .addresses ≤ 1000000
-  pub vectors : z .vectors ≤ 1000000
-  pub multiplicity : z .multiplicity ≤ 1000000000000
-  pub frequencies : z .frequencies ≤ 1000000000000
-  pub eigenvectors : z .eigenvectors ≤ 10000000000000
-  pub shortest : z .shortest ≤ 1000000000000
-  pub nonzero : z .nonzero ≤ 1000000000000
-  pub slots : z .slots ≤ 10000000000000
-  pub constants : z .constants ≤ 10000000000000
+  pub measures : Modest m
+  pub addresses : z .addresses ≤ 10000000000000000
+  pub vectors : z .vectors ≤ 10000000000000000
+  pub multiplicity : z .multiplicity ≤ 10000000000000000
+  pub frequencies : z .frequencies ≤ 10000000000000000
+  pub eigenvectors : z .eigenvectors ≤ 10000000000000000
+  pub shortest : z .shortest ≤ 10000000000000000
+  pub nonzero : z .nonzero ≤ 10000000000000000
+  pub slots : z .slots ≤ 10000000000000000
+  pub constants : z .constants ≤ 10000000000000000
 
 pub sized : (m : Measures) (form : Form) (z : Sizes) → smallOk m ≡ true → z ≡ sizesOf m form → Sized m z
 unfolding sizesOf
 sized m form z e q =
-    let h = small m e in
-    let b = products m (rowsOf form m) h (rows-small m form h) in
+    let h = modest m e in
+    let b = products m form h in
     rw q
     (record {
       measures = h;
@@ -121,19 +87,6 @@ sized m form z e q =
       slots = omega arith;
       constants = omega arith;
     })
-
--- of the work buffer's length
-pub record Powers (p s : ℕ) : Type 0 where
-  pub square : p * p ≤ 6048 * 6048
-  pub cube : p * p * p ≤ 6048 * 6048 * 6048
-  pub six : 6 * p ≤ 36288
-  pub pairs : 6 * p * s ≤ 36288 * 6048
-
-pub powers : (p s : ℕ) → p ≤ 6048 → s ≤ 6048 → Powers p s
-powers p s h k =
-    let square = mul-le-mul h h in
-    let six : 6 * p ≤ 36288 = omega arith in
-    record { square = square; cube = mul-le-mul square h; six = six; pairs = mul-le-mul six k }
 
 -- ---- places
 

@@ -1,15 +1,15 @@
 // The heading of a carton: measures, choices, the places of the tables, and refusal 12.
 use crate::words::all_below;
+use checks::sizes::sizes_of;
 use phonon::Anchoring;
 use phonon::Form;
 use phonon::Measures;
-use phonon::Sizes;
 use phonon::Symmetry;
+use planes::work_length;
 ghost use mathlib.Core.Path.{_≡_};
 ghost use mathlib.Core.Bool.{true};
 ghost use Prim.Native.Nat.{_≤_};
 ghost use lib.ListN.{length};
-ghost use Rattle.phonon.specs.Limits.{rowsOf, workLength, sizesOf};
 ghost use Rattle.carton.specs.Heading.{formOf, anchoringOf, symmetryOf, placesOf, wordsMatch, readOf};
 ghost use Rattle.carton.specs.Small.{smallOk};
 
@@ -88,51 +88,6 @@ fn is_small(m: Measures) -> bool
         & (m.first <= 6048)
         & (m.grid <= 6048)
         & (m.vectors <= 6048)
-}
-
-fn rows_of(m: Measures, form: Form) -> usize
-    ensures { λ r. ⌜ r ≡ rowsOf form m ⌝ }
-{
-    match form {
-        Form::Compact => m.atoms,
-        Form::Full => m.supercell,
-    }
-}
-
-fn work_length(p: usize, s: usize) -> usize
-    requires { ⌜ (p ≤ 6048) × (s ≤ 6048) ⌝ }
-    ensures { λ r. ⌜ r ≡ workLength p s ⌝ }
-{
-    let square = p * p;
-    135 * (square * p) + 54 * square + 6 * p * s + 8 * p
-}
-
-fn sizes_of(m: Measures, form: Form) -> Sizes
-    requires { ⌜ smallOk m ≡ true ⌝ }
-    ensures { λ r. ⌜ r ≡ sizesOf m form ⌝ }
-{
-    let rows = rows_of(m, form);
-    let p = m.atoms;
-    let s = m.supercell;
-    let f = m.first;
-    let g = m.grid;
-    let v = m.vectors;
-    let work = work_length(p, s);
-    let bands = 3 * p;
-    let frequencies = g * bands;
-    let pairs = rows * s * s;
-    Sizes {
-        addresses: 3 * g,
-        vectors: 3 * v,
-        multiplicity: 2 * (s * p),
-        frequencies: frequencies,
-        eigenvectors: 2 * (frequencies * bands),
-        shortest: p * s * s,
-        nonzero: pairs,
-        slots: f * bands * bands,
-        constants: pairs * 27,
-        work: work,
-    }
 }
 
 fn places_of(m: Measures, form: Form) -> Places

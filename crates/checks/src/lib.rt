@@ -1,4 +1,8 @@
 // Tests of single numbers and scans of tables, which the doors' refusals are made of.
+pub mod limits;
+pub mod sizes;
+pub mod values;
+
 ghost use mathlib.Core.Path.{_≡_};
 ghost use Prim.Native.Nat.{_+_, _*_, _≤_};
 ghost use lib.ListN.{length};

@@ -1,7 +1,6 @@
 // Document 01's refusals 1 to 9: every test of a set, in order, before any work.
 pub mod joined;
 pub mod lengths;
-pub mod limits;
 pub mod list;
 pub mod measures;
 pub mod phases;

@@ -1,5 +1,5 @@
 // Number 9: every phase that the work computes lies within the domain of the sine and cosine.
-use crate::limits;
+use checks::limits;
 use phonon::Symmetry;
 use real_to_reciprocal::entries::index_at;
 use real_to_reciprocal::phases::compute_q_vec;

@@ -1,21 +1,13 @@
-// Numbers 3, 4, 5, 7 and 8: the entries of the tables and of the bath. Number 6 is checks::all_positive.
-use crate::limits;
-use phonon::Bath;
+// Numbers 3, 4 and 5 of the tables: indices, finite numbers and the mesh. Number 6 is checks::all_positive, and
+// checks::values has points, cutoff and bath.
+use checks::limits;
 use phonon::Measures;
 ghost use mathlib.Core.Path.{_≡_};
 ghost use mathlib.Core.Bool.{true};
-ghost use Prim.Native.Nat.{_*_, _≤_};
+ghost use Prim.Native.Nat.{_*_};
 ghost use lib.ListN.{length};
-ghost use Rattle.phonon.specs.Refusal.{measuresOk, pointsOk, bathFinite, cutoffOk, bathOk};
+ghost use Rattle.phonon.specs.Refusal.{measuresOk};
 ghost use Rattle.refusals.specs.Slices.{indicesFor, finiteFor, meshFor};
-
-// 3: the grid points of the triplets.
-pub fn points_ok(grid: usize, points: &[i64]) -> bool
-    requires { ⌜ (1 ≤ grid) × (grid ≤ 1000000) ⌝ }
-    ensures { λ r. ⌜ r ≡ pointsOk grid (now (points .entry)) ⌝ }
-{
-    checks::all_within(0, (grid - 1) as i64, points)
-}
 
 // 3: p2s, s2p, bands and vector ranges.
 pub fn table_indices_ok(
@@ -58,14 +50,6 @@ pub fn tables_finite(
         & checks::all_finite(constants)
 }
 
-// 4: the temperature and the weights.
-pub fn bath_finite(bath: Bath, first: &[f64], second: &[f64]) -> bool
-    ensures { λ r. ⌜ r ≡ bathFinite bath (now (first .entry)) (now (second .entry)) ⌝ }
-{
-    let temperature = bath.temperature;
-    checks::is_finite(temperature) & checks::all_finite(first) & checks::all_finite(second)
-}
-
 // 5: the mesh, the q matrix and the addresses.
 pub fn mesh_ok(mesh: [i64; 3], matrix: [i64; 9], addresses: &[i64]) -> bool
     ensures { λ r. ⌜ r ≡ meshFor mesh matrix (now (addresses .entry)) ⌝ }
@@ -73,21 +57,4 @@ pub fn mesh_ok(mesh: [i64; 3], matrix: [i64; 9], addresses: &[i64]) -> bool
     checks::all_within(limits::LOWEST_MESH, limits::HIGHEST_MESH, &mesh)
         & checks::all_within(limits::LOWEST_MATRIX, limits::HIGHEST_MATRIX, &matrix)
         & checks::all_within(limits::LOWEST_ADDRESS, limits::HIGHEST_ADDRESS, addresses)
-}
-
-// 7: the cutoff.
-pub fn cutoff_ok(cutoff: f64) -> bool
-    ensures { λ r. ⌜ r ≡ cutoffOk cutoff ⌝ }
-{
-    !(cutoff < 0.0)
-}
-
-// 8: the weight and the temperature.
-pub fn bath_ok(bath: Bath) -> bool
-    ensures { λ r. ⌜ r ≡ bathOk bath ⌝ }
-{
-    let weight = bath.weight;
-    let temperature = bath.temperature;
-    checks::is_within(limits::LOWEST_WEIGHT, limits::HIGHEST_WEIGHT, weight)
-        & !checks::sign_bit(temperature)
 }

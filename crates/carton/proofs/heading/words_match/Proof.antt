@@ -3,7 +3,7 @@ use borrow.Author.Tests.{eq-eqb, ne-eqb, le-leb, lt-leb}
 use mathlib.Core.Path.{refl}
 use Rattle.phonon.specs.Limits.{workLength}
 use Rattle.carton.specs.Heading.{wordsMatch}
-use Rattle.carton.proofs.MeasureLaws.{small, too-few, ordered}
+use Rattle.carton.proofs.MeasureLaws.{modest, too-few, ordered}
 use Rattle.carton.proofs.HeadingLaws.{rest}
 use native.Mathlib.Omega.{arith}
 use borrow.Author.Needs.{needs}
@@ -25,7 +25,7 @@ unfolding wordsMatch
 returns-2 c = rw (ne-eqb _ _ (c .if2 .taken)) refl
 
 work-length-requires : tie.Need-work-length-requires
-work-length-requires c κs = let h = small _ (c .before .before .before .pre .1) in (h .atoms, h .supercell)
+work-length-requires c κs = let h = modest _ (c .before .before .before .pre .1) in (h .atoms, h .supercell)
 
 returns-3 : tie.Need-returns-3
 unfolding wordsMatch

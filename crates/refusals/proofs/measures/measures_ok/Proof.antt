@@ -17,34 +17,34 @@ returns c =
     let e : atomsOk (c .before .before .args .m .atoms) ≡ false = rw (lt-leb _ _ (c .if1 .taken)) (and-false (leb 1 (c .before .before .args .m .atoms))) in
     rw e refl
 
-in-limits-requires : tie.Need-in-limits-requires
-in-limits-requires c κs = search needs
+is-measured-requires : tie.Need-is-measured-requires
+is-measured-requires c κs = search needs
 
-in-limits-requires-2 : tie.Need-in-limits-requires-2
-in-limits-requires-2 c κs = search needs
+is-measured-requires-2 : tie.Need-is-measured-requires-2
+is-measured-requires-2 c κs = search needs
 
-mul-in-limits : tie.Need-mul-in-limits
-mul-in-limits c = search needs
+mul-is-measured : tie.Need-mul-is-measured
+mul-is-measured c = search needs
 
-in-limits-requires-3 : tie.Need-in-limits-requires-3
-in-limits-requires-3 c κs = search needs
+is-measured-requires-3 : tie.Need-is-measured-requires-3
+is-measured-requires-3 c κs = search needs
 
-in-limits-requires-4 : tie.Need-in-limits-requires-4
-in-limits-requires-4 c κs = search needs
+is-measured-requires-4 : tie.Need-is-measured-requires-4
+is-measured-requires-4 c κs = search needs
 
-in-limits-requires-5 : tie.Need-in-limits-requires-5
-in-limits-requires-5 c κs = search needs
+is-measured-requires-5 : tie.Need-is-measured-requires-5
+is-measured-requires-5 c κs = search needs
 
 returns-2 : tie.Need-returns-2
 unfolding measuresOk allTrue allTrueAfter
 returns-2 c =
     let d = c .before .before .before in
     rw (
-      d .before .before .in-limits .ensures,
-      d .before .in-limits2 .ensures,
-      c .before .before .in-limits3 .ensures,
-      c .before .in-limits4 .ensures,
-      c .in-limits5 .ensures,
+      d .before .before .is-measured .ensures,
+      d .before .is-measured2 .ensures,
+      c .before .before .is-measured3 .ensures,
+      c .before .is-measured4 .ensures,
+      c .is-measured5 .ensures,
     )
     refl
 
@@ -53,10 +53,10 @@ measures-ok-spec =
     tie.close
     (tie.spec
     returns
-    in-limits-requires
-    in-limits-requires-2
-    mul-in-limits
-    in-limits-requires-3
-    in-limits-requires-4
-    in-limits-requires-5
+    is-measured-requires
+    is-measured-requires-2
+    mul-is-measured
+    is-measured-requires-3
+    is-measured-requires-4
+    is-measured-requires-5
     returns-2)

@@ -2,8 +2,8 @@
 use mathlib.Core.Path.{refl}
 use Rattle.phonon.specs.Limits.{rowsOf}
 use borrow.Author.Needs.{needs}
-use Rattle.carton.proofs.heading.rows_of.Statement.{statement}
-use Rattle.carton.proofs.heading.rows_of.Tie as tie
+use Rattle.checks.proofs.sizes.rows_of.Statement.{statement}
+use Rattle.checks.proofs.sizes.rows_of.Tie as tie
 
 enum-told : tie.Need-enum-told
 enum-told c = search needs

@@ -6,8 +6,8 @@ use mir.Syntax.{w64}
 use Rattle.phonon.specs.Tests.{allTrue, allTrueAfter}
 use Rattle.phonon.specs.Refusal.{bathOk}
 use borrow.Author.Needs.{needs}
-use Rattle.refusals.proofs.tables.bath_ok.Statement.{statement}
-use Rattle.refusals.proofs.tables.bath_ok.Tie as tie
+use Rattle.checks.proofs.values.bath_ok.Statement.{statement}
+use Rattle.checks.proofs.values.bath_ok.Tie as tie
 
 is-within-requires : tie.Need-is-within-requires
 is-within-requires c κs = search needs

@@ -3,8 +3,8 @@ use mathlib.Core.Path.{refl}
 use Rattle.phonon.specs.Tests.{allTrue, allTrueAfter}
 use Rattle.phonon.specs.Refusal.{bathFinite}
 use borrow.Author.Needs.{needs}
-use Rattle.refusals.proofs.tables.bath_finite.Statement.{statement}
-use Rattle.refusals.proofs.tables.bath_finite.Tie as tie
+use Rattle.checks.proofs.values.bath_finite.Statement.{statement}
+use Rattle.checks.proofs.values.bath_finite.Tie as tie
 
 is-finite-requires : tie.Need-is-finite-requires
 is-finite-requires c κs = search needs

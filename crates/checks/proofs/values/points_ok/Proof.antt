@@ -5,8 +5,8 @@ use mir.ValLaws.{toZ-pos}
 use mir.Syntax.{w64}
 use Rattle.phonon.specs.Refusal.{pointsOk}
 use borrow.Author.Needs.{needs}
-use Rattle.refusals.proofs.tables.points_ok.Statement.{statement}
-use Rattle.refusals.proofs.tables.points_ok.Tie as tie
+use Rattle.checks.proofs.values.points_ok.Statement.{statement}
+use Rattle.checks.proofs.values.points_ok.Tie as tie
 
 sub-all-within : tie.Need-sub-all-within
 sub-all-within c = search needs
