@@ -1,8 +1,8 @@
 -- What the work needs of an accepted set: the ranges of its indices, and the room of its tables and of the work buffer.
-use mathlib.Core.Path.{_≡_, refl, sym, ap, _∙_}
+use mathlib.Core.Path.{_≡_, refl, ap, _∙_}
 use mathlib.Core.List.{List, [], _∷_}
-use Prim.Native.Nat.{ℕ, zero, suc, _+_, _-_, _*_, _^_, _<_, _≤_}
-use native.Mathlib.Nat.{mul-assoc, mul-le-mul, mul-le-mul-right}
+use Prim.Native.Nat.{ℕ, zero, suc, _+_, _*_, _<_, _≤_}
+use native.Mathlib.Nat.{mul-le-mul-right}
 use native.Mathlib.Numerals.{add-one}
 use native.Mathlib.Omega.{arith}
 use lib.IntN.{ℤ}
@@ -14,9 +14,8 @@ use Rattle.phonon.specs.Number.{index, int}
 use Rattle.phonon.specs.Sets.{TripletSet}
 use Rattle.phonon.specs.Limits.{workLength, rowsOf}
 use Rattle.phonon.specs.Refusal.{pointsOk, tripletRefusal}
-use Rattle.phonon.proofs.Accepted.{Measured, TableSizes, Indexed, Accepted, accepted-facts}
+use Rattle.phonon.proofs.Accepted.{Accepted, accepted-facts, index-below}
 use Rattle.real_to_reciprocal.specs.Shape.{Ranged, Anchored, rowsFor, Shaped}
-use Rattle.reciprocal_to_normal.proofs.FlagLaws.{band-lt}
 use Rattle.real_to_normal.specs.Work.{endAt}
 
 rows-are : (form : Form) (m : Measures) → rowsOf form m ≡ rowsFor form (m .atoms) (m .supercell)
@@ -31,12 +30,6 @@ end-fits P S p =
     let b : P ≤ P * P = omega (arith, mul-le-mul-right P p) in
     let c : P * P ≤ P * P * P = omega (arith, mul-le-mul-right P b) in
     omega arith
-
--- W is small
-pub work-small : (P S : ℕ) → P ≤ 8 → S ≤ 64 → (P * P ≤ 64) × (P * P * P ≤ 512) × (P * S ≤ 512)
-work-small P S p s =
-    let a : P * P ≤ 64 = mul-le-mul p p in
-    (a, mul-le-mul a p, mul-le-mul p s)
 
 -- past the end of a table stands 0
 in-range : (G : ℕ) (l : List ℤ) → 0 < G → ((k : ℕ) → k < length l → index (int l k) < G) → (x : ℕ) → index (int l x) < G
@@ -89,7 +82,7 @@ module _ (s : TripletSet) (e : tripletRefusal s ≡ 0) where
 
     pub point-lt : g < s .tables .measures .grid
     unfolding pointsOk
-    point-lt = in-range (s .tables .measures .grid) (s .triplet) (facts .measured .grid) (λ k h. band-lt (s .tables .measures .grid) (s .triplet) k (facts .measured .grid) (facts .points) h) x
+    point-lt = in-range (s .tables .measures .grid) (s .triplet) (facts .measured .grid) (index-below (s .tables .measures .grid) (s .triplet) (facts .measured .grid) (facts .points)) x
 
     pub address-fits : 3 * g + 3 ≤ length (s .tables .grid .addresses)
     address-fits = omega (arith, point-lt, facts .sized .addresses)
@@ -103,10 +96,3 @@ module _ (s : TripletSet) (e : tripletRefusal s ≡ 0) where
     eigenvector-fits =
         let a : (g + 1) * (3 * P * (3 * P)) ≤ s .tables .measures .grid * (3 * P * (3 * P)) = rw add-one (mul-le-mul-right (3 * P * (3 * P)) point-lt) in
         omega (arith, facts .sized .eigenvectors)
-
-  pub length-of-work : workLength P S < 2 ^ 64
-  unfolding workLength
-  length-of-work =
-      let b = work-small P S (facts .measured .atoms-most) (facts .measured .supercell-most) in
-      let e : 6 * P * S ≡ 6 * (P * S) = mul-assoc 6 P S in
-      omega (arith, facts .measured .atoms-most, b .0, b .1, b .2)

@@ -8,15 +8,15 @@ use phonon::Measures;
 use phonon::Settings;
 use phonon::Symmetry;
 use planes::index_of;
+use planes::work_length;
 use real_to_reciprocal::phases::compute_q_vec;
 ghost use mathlib.Core.Path.{_≡_};
 ghost use mathlib.Core.Bool.{true};
 ghost use mathlib.Core.List.{_++_};
-ghost use Prim.Native.Nat.{_+_, _-_, _*_, _^_, _<_, _≤_};
+ghost use Prim.Native.Nat.{_+_, _-_, _*_, _≤_};
 ghost use lib.IntN.{pos};
 ghost use lib.ListN.{length, drop, replicate};
 ghost use Rattle.phonon.specs.Number.{f0, at, table};
-ghost use Rattle.phonon.specs.Sets.{Legs, Forces, Phonons};
 ghost use Rattle.phonon.specs.Tests.{allWithin};
 ghost use Rattle.phonon.specs.Interaction as Interaction;
 ghost use Rattle.phonon.specs.ReciprocalToNormal.{inverseRoots};
@@ -140,15 +140,6 @@ pub fn slots_of(
             cutoff,
         ),
     }
-}
-
-// W, of np atoms and ns supercell atoms.
-fn work_length(np: usize, ns: usize) -> usize
-    requires { ⌜ 135 * (np * np * np) + 54 * (np * np) + 6 * np * ns + 8 * np < 2 ^ 64 ⌝ }
-    ensures { λ r. ⌜ r ≡ 135 * (np * np * np) + 54 * (np * np) + 6 * np * ns + 8 * np ⌝ }
-{
-    let square = np * np;
-    135 * (square * np) + 54 * square + 6 * np * ns + 8 * np
 }
 
 // The worker of one triplet: the strengths of an accepted set, and the work buffer cleared.

@@ -6,9 +6,8 @@ use mir.ValLaws.{toZ-ofZ}
 use mir.Syntax.{w64}
 use Rattle.phonon.specs.Number.{index, int}
 use Rattle.phonon.specs.Sets.{TripletSet, ofTriplet}
-use Rattle.phonon.specs.Limits.{workLength}
 use Rattle.phonon.specs.RealToReciprocal.{qAt}
-use Rattle.real_to_normal.proofs.AcceptedLaws.{facts, ranged, anchored, shaped, room, end-fits, address-fits, frequency-fits, eigenvector-fits, length-of-work}
+use Rattle.real_to_normal.proofs.AcceptedLaws.{facts, ranged, anchored, shaped, room, end-fits, address-fits, frequency-fits, eigenvector-fits}
 use Rattle.real_to_normal.proofs.TripletLaws.{strengths-from, cleared-is}
 use Rattle.real_to_normal.proofs.triplet.work_triplet.Statement.{statement}
 use Rattle.real_to_normal.proofs.triplet.work_triplet.Tie as tie
@@ -38,8 +37,10 @@ set s =
     }
 
 work-length-requires : tie.Need-work-length-requires
-unfolding workLength
-work-length-requires c κs = length-of-work (set (c .before .before .before .before .before .before .before .before .before .before)) (c .before .before .before .before .before .before .before .before .before .before .pre)
+work-length-requires c κs =
+    let s = c .before .before .before .before .before .before .before .before .before .before in
+    let f = facts (set s) (s .pre) .measured in
+    (omega (arith, f .atoms-most), omega (arith, f .supercell-most))
 
 array-copy-out-index-of : tie.Need-array-copy-out-index-of
 array-copy-out-index-of c = omega arith
@@ -102,7 +103,6 @@ slots-of-requires c κs =
     )
 
 clear-work-requires : tie.Need-clear-work-requires
-unfolding workLength
 clear-work-requires c κs =
     let d = c .before .before .before .before .before .before .before .before .before .before .before .before .before .before in
     omega (arith, facts (set (start d)) (start d .pre) .work, c .before .before .before .before .before .slots-of .ensures .1 .size, d .before .before .before .before .before .before .work-length .ensures)
@@ -114,7 +114,6 @@ same-length-2 : tie.Need-same-length-2
 same-length-2 c = search needs
 
 returns : tie.Need-returns
-unfolding workLength
 returns c =
     let d = c .before .before .before .before .before .before .before .before .before .before .before .before .before .before .before .before .before in
     let s = set (start d) in

@@ -1,6 +1,6 @@
 -- An entry of a table, as an index.
 use Rattle.phonon.specs.Number.{int}
-use Rattle.real_to_reciprocal.proofs.SignedRead.{read-index}
+use Rattle.planes.proofs.SignedRead.{read-index}
 use borrow.Author.Needs.{needs}
 use Rattle.real_to_reciprocal.proofs.entries.index_at.Statement.{statement}
 use Rattle.real_to_reciprocal.proofs.entries.index_at.Tie as tie

@@ -3,10 +3,11 @@ use mathlib.Core.Path.{_≡_, ap, _∙_}
 use Prim.Native.Nat.{_*_, _-_, _≤_}
 use lib.ListN.{length}
 use Rattle.phonon.specs.Number.{at, index, int, flagged}
+use Rattle.phonon.proofs.Accepted.{index-below}
 use Rattle.reciprocal_to_normal.specs.Slots.{Visited, bOf, jOf, kOf, InAll}
 use Rattle.reciprocal_to_normal.specs.Listing.{gathered}
 use Rattle.reciprocal_to_normal.proofs.SlotLaws.{visited-none, visited-ext, visited-table, all-step, b-lt}
-use Rattle.reciprocal_to_normal.proofs.FlagLaws.{band-lt, plane-le}
+use Rattle.reciprocal_to_normal.proofs.FlagLaws.{plane-le}
 use Rattle.reciprocal_to_normal.proofs.GatherLaws.{band-gathered}
 use native.Mathlib.Omega.{arith}
 use Rattle.reciprocal_to_normal.proofs.gather.gather_sixth.Statement.{statement}
@@ -31,7 +32,7 @@ band-at-requires c κs = omega arith
 gather-plane-requires : tie.Need-gather-plane-requires Inv-loop μ-loop
 gather-plane-requires c κs = let s = c .before .before .before .before .before .before .before in
     let a = s .args in
-    let h = band-lt (3 * a .np) (a .bands .now) (c .before .before .before .loop .b) (omega (arith, s .pre .0 .0)) (s .pre .1 .0) (c .before .before .loop-test .taken) in
+    let h = index-below (3 * a .np) (a .bands .now) (omega (arith, s .pre .0 .0)) (s .pre .1 .0) (c .before .before .before .loop .b) (c .before .before .loop-test .taken) in
     omega (arith, h, c .before .band-at .ensures, plane-le (3 * a .np) (c .before .before .loop-test .taken), s .pre .0, s .pre .1 .1, s .pre .1 .2, s .pre .1 .3, c .before .before .before .loop .inv .1 .size)
 
 add-b : tie.Need-add-b Inv-loop μ-loop

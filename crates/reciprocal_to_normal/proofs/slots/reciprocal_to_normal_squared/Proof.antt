@@ -4,11 +4,12 @@ use Prim.Native.Nat.{_+_, _*_, _-_, _<_, _≤_}
 use native.Mathlib.Nat.{mul-le-mul}
 use lib.ListN.{length}
 use Rattle.phonon.specs.Number.{at, flagged, index, int}
+use Rattle.phonon.proofs.Accepted.{index-below}
 use Rattle.planes.specs.Region.{Kept}
 use Rattle.planes.proofs.RegionLaws.{kept-none, kept-then, kept-split, kept-wider}
 use Rattle.reciprocal_to_normal.specs.Slots.{Visited, bOf, jOf, kOf, InAll, slotStrength}
 use Rattle.reciprocal_to_normal.proofs.SlotLaws.{visited-none, visited-ext, visited-table, all-step, j-lt, b-lt}
-use Rattle.reciprocal_to_normal.proofs.FlagLaws.{band-lt, plane-le}
+use Rattle.reciprocal_to_normal.proofs.FlagLaws.{plane-le}
 use Rattle.reciprocal_to_normal.proofs.AmplitudeLaws.{plane-is}
 use native.Mathlib.Omega.{arith}
 use Rattle.reciprocal_to_normal.proofs.slots.reciprocal_to_normal_squared.Statement.{
@@ -46,31 +47,31 @@ band-at-requires c κs = omega arith
 mul-x : tie.Need-mul-x Inv-loop μ-loop
 mul-x c = let s = c .before .before .before .before .before .before .before .before .before in
     let a = s .args in
-    let h = band-lt (3 * a .np) (a .bands .now) (c .before .before .loop .b) (omega (arith, s .pre .0 .0)) (s .pre .1 .0 .3) (c .before .loop-test .taken) in
+    let h = index-below (3 * a .np) (a .bands .now) (omega (arith, s .pre .0 .0)) (s .pre .1 .0 .3) (c .before .before .loop .b) (c .before .loop-test .taken) in
     omega (arith, h, c .band-at .ensures, plane-le (3 * a .np) (c .before .loop-test .taken), s .pre .0, s .pre .1 .0 .0, s .pre .1 .0 .1, s .pre .1 .0 .2, s .pre .1 .1, c .before .before .loop .inv .1 .size, c .before .before .loop .inv .2 .size)
 
 shared-slice-read-x : tie.Need-shared-slice-read-x Inv-loop μ-loop
 shared-slice-read-x c = let s = c .before .before .before .before .before .before .before .before .before .before in
     let a = s .args in
-    let h = band-lt (3 * a .np) (a .bands .now) (c .before .before .before .loop .b) (omega (arith, s .pre .0 .0)) (s .pre .1 .0 .3) (c .before .before .loop-test .taken) in
+    let h = index-below (3 * a .np) (a .bands .now) (omega (arith, s .pre .0 .0)) (s .pre .1 .0 .3) (c .before .before .before .loop .b) (c .before .before .loop-test .taken) in
     omega (arith, h, c .before .band-at .ensures, plane-le (3 * a .np) (c .before .before .loop-test .taken), s .pre .0, s .pre .1 .0 .0, s .pre .1 .0 .1, s .pre .1 .0 .2, s .pre .1 .1, c .before .before .before .loop .inv .1 .size, c .before .before .before .loop .inv .2 .size)
 
 add-contract-fc3-e0 : tie.Need-add-contract-fc3-e0 Inv-loop μ-loop
 add-contract-fc3-e0 c = let s = c .before .before .before .before .before .before .before .before .before .before .before in
     let a = s .args in
-    let h = band-lt (3 * a .np) (a .bands .now) (c .before .before .before .before .loop .b) (omega (arith, s .pre .0 .0)) (s .pre .1 .0 .3) (c .before .before .before .loop-test .taken) in
+    let h = index-below (3 * a .np) (a .bands .now) (omega (arith, s .pre .0 .0)) (s .pre .1 .0 .3) (c .before .before .before .before .loop .b) (c .before .before .before .loop-test .taken) in
     omega (arith, h, c .before .before .band-at .ensures, plane-le (3 * a .np) (c .before .before .before .loop-test .taken), s .pre .0, s .pre .1 .0 .0, s .pre .1 .0 .1, s .pre .1 .0 .2, s .pre .1 .1, c .before .before .before .before .loop .inv .1 .size, c .before .before .before .before .loop .inv .2 .size)
 
 contract-fc3-e0-requires : tie.Need-contract-fc3-e0-requires Inv-loop μ-loop
 contract-fc3-e0-requires c κs = let s = c .before .before .before .before .before .before .before .before .before .before .before in
     let a = s .args in
-    let h = band-lt (3 * a .np) (a .bands .now) (c .before .before .before .before .loop .b) (omega (arith, s .pre .0 .0)) (s .pre .1 .0 .3) (c .before .before .before .loop-test .taken) in
+    let h = index-below (3 * a .np) (a .bands .now) (omega (arith, s .pre .0 .0)) (s .pre .1 .0 .3) (c .before .before .before .before .loop .b) (c .before .before .before .loop-test .taken) in
     omega (arith, h, c .before .before .band-at .ensures, plane-le (3 * a .np) (c .before .before .before .loop-test .taken), s .pre .0, s .pre .1 .0 .0, s .pre .1 .0 .1, s .pre .1 .0 .2, s .pre .1 .1, c .before .before .before .before .loop .inv .1 .size, c .before .before .before .before .loop .inv .2 .size)
 
 fill-plane-requires : tie.Need-fill-plane-requires Inv-loop μ-loop
 fill-plane-requires c κs = let s = c .before .before .before .before .before .before .before .before .before .before .before .before .before .before .before .before in
     let a = s .args in
-    let h = band-lt (3 * a .np) (a .bands .now) (c .before .before .before .before .before .before .before .before .before .loop .b) (omega (arith, s .pre .0 .0)) (s .pre .1 .0 .3) (c .before .before .before .before .before .before .before .before .loop-test .taken) in
+    let h = index-below (3 * a .np) (a .bands .now) (omega (arith, s .pre .0 .0)) (s .pre .1 .0 .3) (c .before .before .before .before .before .before .before .before .before .loop .b) (c .before .before .before .before .before .before .before .before .loop-test .taken) in
     omega (arith, h, c .before .before .before .before .before .before .before .band-at .ensures, plane-le (3 * a .np) (c .before .before .before .before .before .before .before .before .loop-test .taken), s .pre .0, s .pre .1 .0 .0, s .pre .1 .0 .1, s .pre .1 .0 .2, s .pre .1 .1, c .before .before .before .before .before .before .before .before .before .loop .inv .1 .size, c .before .before .before .before .before .before .before .before .before .loop .inv .2 .size, c .before .before .before .before .contract-fc3-e0 .ensures .size)
 
 add-b : tie.Need-add-b Inv-loop μ-loop
@@ -88,7 +89,7 @@ loop-again c = let s = c .before .before .before .before .before .before .before
     let some : 0 < (3 * a .np) = omega (arith, s .pre .0 .0) in
     let n = c .before .before .before .before .before .before .before .before .before .before .before .before .band-at .result in
     let en = c .before .before .before .before .before .before .before .before .before .before .before .before .band-at .ensures in
-    let pn : n < (3 * a .np) = omega (arith, en, band-lt (3 * a .np) (a .bands .now) b some (s .pre .1 .0 .3) pb) in
+    let pn : n < (3 * a .np) = omega (arith, en, index-below (3 * a .np) (a .bands .now) some (s .pre .1 .0 .3) b pb) in
     let room = s .pre .1 .1 in
     let w = c .before .before .before .before .before .before .before .before .before .contract-fc3-e0 .ensures in
     let f = c .before .before .before .before .fill-plane .ensures in
