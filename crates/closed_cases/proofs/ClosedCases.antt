@@ -2,9 +2,9 @@
 use Prim.Native.Nat.{ℕ}
 use mathlib.Core.Path.{_≡_, refl}
 use mathlib.Core.List.{List, [], _∷_, _++_, map}
-use lib.Ieee.{Float, nan}
+use lib.Ieee.{nan}
 use lib.ListN.{replicate}
-use lib.IntN.{ℤ, pos, negsuc}
+use lib.IntN.{negsuc}
 use Rattle.phonon.specs.declared.Anchoring.the-variants.{Plain, Averaged}
 use Rattle.phonon.specs.declared.Form.the-variants.{Compact, Full}
 use Rattle.phonon.specs.declared.Symmetry.the-variants.{Off, Symmetrized}

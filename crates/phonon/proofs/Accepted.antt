@@ -2,15 +2,17 @@
 use Prim.Native.Nat.{ℕ, zero, suc, _+_, _-_, _*_, _<_, _≤_}
 use native.Mathlib.Omega.{arith}
 use native.Mathlib.Decide.{decLt}
+use native.Mathlib.Numerals.{add-one}
 use mathlib.Core.Path.{_≡_, refl, sym, ap, _∙_, subst}
-use mathlib.Core.Bool.{Bool, true, false, _&&_, cond}
+use mathlib.Core.Bool.{Bool, true, false, _&&_, cond, and-false}
 use mathlib.Core.List.{List, [], _∷_, _++_}
 use borrow.Author.Tests.{leb-true, eqb-true}
-use lib.IntN.{ℤ, pos}
+use lib.Dec.{leb}
+use lib.IntN.{ℤ, pos, negsuc}
 use lib.ListN.{length}
 use Rattle.phonon.specs.declared.Measures.{Measures}
-use Rattle.phonon.specs.declared.Sizes.{Sizes}
-use Rattle.phonon.specs.Tests.{allTrueAfter, allTrue, everyBelow, allWithin}
+use Rattle.phonon.specs.Number.{index, int}
+use Rattle.phonon.specs.Tests.{allTrueAfter, allTrue, everyBelow, within, allWithin}
 use Rattle.phonon.specs.Sets.{Tables, bandsOf, TripletSet}
 use Rattle.phonon.specs.Limits.{workLength, rowsOf, sizesOf}
 use Rattle.phonon.specs.Refusal.{measuresOk, tableLengths, bufferLengths, sizes, tripletLengthsOk, pointsOk, rangesOk, tableIndicesOk, indicesOk, Test, firstFailed, tripletRefusal}
@@ -63,6 +65,34 @@ pub every-from : (p : ℕ → Bool) (n : ℕ) → ((k : ℕ) → k < n → p k �
 unfolding everyBelow
 every-from p zero h = refl
 every-from p (suc n) h = both-and (every-from p n (λ k l. h k (omega arith))) (h n (omega arith))
+
+pub every-none : (p : ℕ → Bool) → everyBelow p 0 ≡ true
+unfolding everyBelow
+every-none p = refl
+
+-- one number more
+pub every-next : (p : ℕ → Bool) (n : ℕ) → everyBelow p n ≡ true → p n ≡ true → everyBelow p (n + 1) ≡ true
+unfolding everyBelow
+every-next p n h e = rw add-one (both-and h e)
+
+-- a fault below the end
+pub every-bad : (p : ℕ → Bool) (n k : ℕ) → k < n → p k ≡ false → everyBelow p n ≡ false
+unfolding everyBelow
+every-bad p zero k l e = absurd (omega arith)
+every-bad p (suc n) k l e = go (decLt k n) (λ m. every-bad p n k m e)
+  where
+    go : Dec (k < n) → (k < n → everyBelow p n ≡ false) → everyBelow p n && p n ≡ false
+    go (yes m) f = rw (f m)
+    go (no m) f = let q : n ≡ k = omega arith in rw (ap p q ∙ e) (and-false (everyBelow p n))
+
+-- an entry of a table whose entries are all from 0 to below n, as an index
+pub index-below : (n : ℕ) (l : List ℤ) → 1 ≤ n → allWithin (pos 0) (pos (n - 1)) l ≡ true → (k : ℕ) → k < length l → index (int l k) < n
+unfolding allWithin within
+index-below n l h e k m = go (int l k) (every-at (λ i. within (pos 0) (pos (n - 1)) (int l i)) (length l) k e m)
+  where
+    go : (z : ℤ) → within (pos 0) (pos (n - 1)) z ≡ true → index z < n
+    go (pos i) f = omega (arith, leb-true i (n - 1) (and-both (leb 0 i) (leb i (n - 1)) f .1))
+    go (negsuc i) f = h
 
 -- the first of the tests of a refusal that is none, and the rest
 pub passed : (t : Test) (ts : List Test) → 0 < t .number → firstFailed (t ∷ ts) ≡ 0 → (t .good ≡ true) × (firstFailed ts ≡ 0)

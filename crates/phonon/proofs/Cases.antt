@@ -1,6 +1,6 @@
 -- The key cases M1 to M11 hold of the definitions: each is computed.
 use mathlib.Core.Path.{_≡_, refl}
-use mathlib.Core.List.{List, [], _∷_, map}
+use mathlib.Core.List.{List, _∷_, map}
 use Rattle.phonon.specs.Doors.{JoinedOutcome, joinedOutcome}
 use Rattle.phonon.specs.KeyCases.{KeyCase, M1, M2, M3, M4, M5, M6, M7, M8, M9, M10, M11, keyCases}
 use Rattle.phonon.proofs.Evaluate.{evaluate}

@@ -6,7 +6,7 @@ use native.Mathlib.Numerals.{add-one}
 use native.Mathlib.Decide.{decLt}
 use mathlib.Core.Path.{_≡_, refl, sym, ap, ap₂, _∙_}
 use mathlib.Core.List.{List, [], _∷_, _++_, append-assoc}
-use lib.ListN.{getD, length, take, drop, set, length-append, length-take, length-drop}
+use lib.ListN.{getD, length, take, drop, set, length-append, length-drop}
 use lib.Seq.{drop-append-le, take-append-le, drop-at, take-all, drop-cons, set-at, append-snoc}
 use lib.Ieee.{Float, nan}
 use Rattle.phonon.specs.declared.Complex.{Complex}

@@ -1,21 +1,20 @@
 -- A joined set that is accepted holds an accepted set of one triplet, and so does each share of an accepted list.
-use Prim.Native.Nat.{ℕ, zero, suc, _+_, _-_, _*_, _<_, _≤_}
+use Prim.Native.Nat.{ℕ, suc, _+_, _-_, _*_, _<_, _≤_}
 use native.Mathlib.Nat.{mul-le-mul-right, suc-mul}
 use native.Mathlib.Omega.{arith}
 use mathlib.Core.Path.{_≡_, refl, sym, ap, _∙_, subst}
-use mathlib.Core.Bool.{Bool, true, false, _&&_, cond}
+use mathlib.Core.Bool.{Bool, true, _&&_}
 use mathlib.Core.List.{List, [], _∷_, _++_}
-use lib.Dec.{leb, eqb}
+use lib.Dec.{leb}
 use borrow.Author.Tests.{eqb-true, eq-eqb}
 use lib.IntN.{ℤ, pos}
-use lib.ListN.{length, take, drop, length-drop}
+use lib.ListN.{length, drop, length-drop}
 use lib.Seq.{length-take-le, getD-take, getD-drop}
 use lib.Ieee.{Float}
-use Rattle.phonon.specs.Number.{int}
-use Rattle.phonon.specs.Tests.{allTrueAfter, allTrue, everyBelow, within, allWithin}
-use Rattle.phonon.specs.Sets.{Tables, bandsOf, slots, part, TripletSet, ListSet, JoinedSet, ofTriplet, ofJoined, ofList}
+use Rattle.phonon.specs.Tests.{allTrueAfter, allTrue, within, allWithin}
+use Rattle.phonon.specs.Sets.{slots, part, TripletSet, ListSet, JoinedSet, ofList}
 use Rattle.phonon.specs.Limits.{sizesOf}
-use Rattle.phonon.specs.Refusal.{tableLengths, bufferLengths, sizes, tripletLengthsOk, listLengthsOk, joinedLengthsOk, pointsOk, tableIndicesOk, indicesOk, phasesOk, Test, firstFailed, tripletRefusal, listRefusal, joinedRefusal}
+use Rattle.phonon.specs.Refusal.{tableLengths, bufferLengths, sizes, tripletLengthsOk, listLengthsOk, joinedLengthsOk, pointsOk, indicesOk, phasesOk, Test, firstFailed, tripletRefusal, listRefusal, joinedRefusal}
 use Rattle.phonon.proofs.Accepted.{and-both, both-and, all-first, all-append, every-at, every-from, passed}
 
 -- ---- tests that make a refusal none

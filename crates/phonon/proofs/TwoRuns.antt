@@ -1,28 +1,26 @@
 -- Demand 3. A kept slot's strength is worked from force constants that no change reaches, from three unchanged bands, and from a cutoff that
 -- lies below all three of its frequencies in both runs and so has no part in it. A total is the same sum over the same slots.
-use Prim.Native.Nat.{ℕ, zero, suc, _+_, _*_, _/_, _%_, _<_}
+use Prim.Native.Nat.{ℕ, zero, suc, _+_, _*_, _/_, _<_}
 use native.Mathlib.Omega.{arith}
 use mathlib.Core.Path.{_≡_, refl, sym, ap, _∙_, subst}
 use mathlib.Core.Bool.{Bool, true, false, cond}
 use mathlib.Core.List.{List, []}
 use lib.Dec.{T}
-use lib.IntN.{ℤ}
 use lib.Ieee.{Float, nan, lt, le}
-use lib.ListN.{getD, length, take, drop}
+use lib.ListN.{getD, length, drop}
 use lib.Seq.{getD-take, getD-drop}
-use Rattle.phonon.specs.declared.Answer.{Answer}
-use Rattle.phonon.specs.declared.Answer.the-variants.{Accepted, Refused}
+use Rattle.phonon.specs.declared.Answer.the-variants.{Accepted}
 use Rattle.phonon.specs.declared.Symmetry.{Symmetry}
 use Rattle.phonon.specs.declared.Symmetry.the-variants.{Off, Symmetrized}
-use Rattle.phonon.specs.Number.{_⊕_, _⊗_, _⊘_, f0, f6, at, index, int, flagged, fold, table}
-use Rattle.phonon.specs.Common.{scale, cat, ctable}
+use Rattle.phonon.specs.Number.{_⊕_, _⊗_, _⊘_, f0, f6, at, index, int, flagged, table}
+use Rattle.phonon.specs.Common.{scale}
 use Rattle.phonon.specs.Sets.{Phonons, Triplet, bandsOf, slot, slots, part, TripletSet, ListSet, TotalsSet, JoinedSet, ofTriplet, ofJoined, ofList, Legs}
 use Rattle.phonon.specs.RealToReciprocal.{qAt, reciprocal}
 use Rattle.phonon.specs.ReciprocalToNormal.{inverseRoots, columnEntry, column, Phonon, phononAt, amplitude, squared, cut, anyCut, strengthFrom, strength}
-use Rattle.phonon.specs.Interaction.{orders, leg, exchanged, orderCount, point, legQ, reciprocals, sixth, value, phononsAt, strengthWith, strengthAt, slotWith, strengthsWith, strengths, listStrengths}
-use Rattle.phonon.specs.ImagSelfEnergy.{Sum, placeOf, second1, third2, counted, slotTerm, total, totals, sumAlone, sumJoined}
+use Rattle.phonon.specs.Interaction.{orders, leg, exchanged, orderCount, point, reciprocals, sixth, value, phononsAt, strengthWith, strengthAt, slotWith, strengthsWith, strengths, listStrengths}
+use Rattle.phonon.specs.ImagSelfEnergy.{Sum, second1, third2, counted, slotTerm, total, totals, sumAlone, sumJoined}
 use Rattle.phonon.specs.Refusal.{tripletRefusal, listRefusal, totalsRefusal, joinedRefusal}
-use Rattle.phonon.specs.Doors.{answerFor, StrengthsOutcome, tripletLeaves, tripletOutcome, listLeaves, listOutcome, TotalsOutcome, totalsLeaves, totalsOutcome, JoinedOutcome, joinedWith, joinedLeaves, joinedOutcome}
+use Rattle.phonon.specs.Doors.{answerFor, tripletLeaves, tripletOutcome, listLeaves, listOutcome, totalsLeaves, totalsOutcome, joinedWith, joinedLeaves, joinedOutcome}
 use Rattle.phonon.specs.Demand3.{Run, one, joined, share, IsAccepted, worked, written, Narrowed, Unchanged, Stays, IsSlot, Kept, SameStrength, SameBath, SameElse, SameSlot, Demand3}
 use Rattle.phonon.proofs.Laws.{fold-ext, ctable-ext, table-at, table-length, div-of, mod-of, joined-part, pair-lt}
 use Rattle.phonon.proofs.Order.{to-T, is-false, lt-not-le, le-lt}

@@ -2,7 +2,7 @@
 -- `≡` on Float is equality of bits with every NaN counted as one.
 use Prim.Native.Nat.{ℕ, _+_, _*_, _<_}
 use mathlib.Core.Path.{_≡_}
-use mathlib.Core.Bool.{Bool, true, false}
+use mathlib.Core.Bool.{true, false}
 use lib.Ieee.{Float, lt, le}
 use Rattle.phonon.specs.declared.Answer.the-variants.{Accepted}
 use Rattle.phonon.specs.Number.{at, index, int, flagged}

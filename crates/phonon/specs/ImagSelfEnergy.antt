@@ -4,13 +4,11 @@ use mathlib.Core.Bool.{Bool, not, _&&_, cond}
 use mathlib.Core.List.{List}
 use lib.IntN.{ℤ}
 use lib.Ieee.{Float, lt}
-use Rattle.phonon.specs.declared.Bath.{Bath}
 use Rattle.phonon.specs.declared.Weights.{Weights}
 use Rattle.phonon.specs.declared.Weights.the-variants.{PerSlot, AtFrequencyPoint}
-use Rattle.phonon.specs.declared.Measures.{Measures}
 use Rattle.phonon.specs.Number.{_⊕_, _⊖_, _⊗_, f0, f1, float, index, at, int, flagged, fold, table}
 use Rattle.phonon.specs.Funcs.{boseEinstein}
-use Rattle.phonon.specs.Sets.{Triplet, TotalsSet, JoinedSet, ofJoined, bandsOf, slot}
+use Rattle.phonon.specs.Sets.{TotalsSet, JoinedSet, bandsOf, slot}
 
 -- what the totals of one triplet read beside the strengths and the temperature
 pub record Sum : Type 0 where

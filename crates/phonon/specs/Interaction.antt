@@ -1,14 +1,13 @@
 -- interaction.rs: the strengths of one triplet, and of a list of triplets.
-use Prim.Native.Nat.{ℕ, zero, suc, _+_, _*_, _/_, _%_}
+use Prim.Native.Nat.{ℕ, zero, suc, _/_, _%_}
 use mathlib.Core.Bool.{cond}
 use mathlib.Core.List.{List, [], _∷_, _++_}
 use lib.Ieee.{Float}
 use lib.ListN.{getD}
-use Rattle.phonon.specs.declared.Measures.{Measures}
 use Rattle.phonon.specs.declared.Symmetry.{Symmetry}
 use Rattle.phonon.specs.declared.Symmetry.the-variants.{Off, Symmetrized}
 use Rattle.phonon.specs.Number.{_⊕_, _⊘_, f0, f6, index, at, int, flagged, fold, table}
-use Rattle.phonon.specs.Sets.{Tables, bandsOf, Triplet, slot, slots, part, ListSet, ofList, Legs}
+use Rattle.phonon.specs.Sets.{bandsOf, Triplet, slot, slots, part, ListSet, ofList, Legs}
 use Rattle.phonon.specs.RealToReciprocal.{qAt, reciprocal}
 use Rattle.phonon.specs.ReciprocalToNormal.{inverseRoots, Phonon, phononAt, strength}
 

@@ -1,7 +1,7 @@
 -- Document 01's key cases: cell U with a change, and all that the joined door leaves.
 -- Strengths, totals and work buffer stand at -1.0 before the call, and the work buffer has two numbers more than W.
-use Prim.Native.Nat.{ℕ, _+_, _*_}
-use mathlib.Core.Bool.{_||_, true, false, Bool, cond}
+use Prim.Native.Nat.{ℕ, _*_}
+use mathlib.Core.Bool.{_||_, false, Bool, cond}
 use mathlib.Core.List.{List, [], _∷_, _++_}
 use lib.IntN.{ℤ, pos}
 use lib.Dec.{eqb}

@@ -1,5 +1,5 @@
 -- real_to_reciprocal.rs: the force constants in reciprocal space. Nothing here reads a frequency, an eigenvector, a slot flag or the cutoff.
-use Prim.Native.Nat.{ℕ, zero, suc, _+_, _*_, _/_, _%_}
+use Prim.Native.Nat.{ℕ, _+_, _*_, _/_, _%_}
 use mathlib.Core.Bool.{Bool, true, false, not, _&&_, cond}
 use mathlib.Core.List.{List}
 use lib.IntN.{ℤ}

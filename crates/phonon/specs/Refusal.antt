@@ -1,6 +1,6 @@
 -- Document 01, "Turned back at the door": each number is one test, true where the set passes, and the lowest number whose test fails is given.
 -- A door tests only what it is handed: totals alone has no number 5, 6 and 9, and the doors without a bath have no number 8.
-use Prim.Native.Nat.{ℕ, zero, suc, _+_, _-_, _*_}
+use Prim.Native.Nat.{ℕ, _+_, _-_, _*_}
 use mathlib.Core.Bool.{Bool, not, _&&_, cond}
 use mathlib.Core.List.{List, [], _∷_, _++_}
 use lib.Dec.{leb, eqb}
@@ -13,7 +13,7 @@ use Rattle.phonon.specs.declared.Bath.{Bath}
 use Rattle.phonon.specs.declared.Sizes.{Sizes}
 use Rattle.phonon.specs.Number.{f0, index, at, int}
 use Rattle.phonon.specs.Trig.{inDomain}
-use Rattle.phonon.specs.Tests.{allTrue, everyBelow, finite, signBit, allFinite, within, allWithin, vectorRange}
+use Rattle.phonon.specs.Tests.{allTrue, everyBelow, finite, signBit, allFinite, allWithin, vectorRange}
 use Rattle.phonon.specs.Sets.{Tables, bandsOf, Triplet, TripletSet, ListSet, TotalsSet, JoinedSet, ofTriplet, ofJoined, ofList, Legs}
 use Rattle.phonon.specs.Limits.{atomsOk, supercellOk, firstOk, gridOk, vectorsOk, listOk, lowestAddress, highestAddress, lowestMesh, highestMesh, lowestMatrix, highestMatrix, weightOk, sizesOf, entriesOf}
 use Rattle.phonon.specs.RealToReciprocal.{phase, prePhase, anchorVector}

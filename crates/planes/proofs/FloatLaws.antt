@@ -1,12 +1,12 @@
 -- Sums and products of floats commute, to the bit.
-use mathlib.Core.Path.{_≡_, refl, sym, ap, _∙_}
+use mathlib.Core.Path.{_≡_, refl, ap, _∙_}
 use mathlib.Core.Bool.{Bool, true, false, _&&_, cond}
-use Prim.Native.Nat.{ℕ, _+_, _-_, _*_, _/_, _%_, _<_, _≤_}
+use Prim.Native.Nat.{ℕ, _-_, _*_, _<_}
 use native.Mathlib.Nat.{add-comm, mul-comm}
 use native.Mathlib.Decide.{decLt}
 use native.Mathlib.Omega.{arith}
 use lib.Dec.{ltb, eqb}
-use lib.Ieee.{Float, Format, nan, inf, fin, binary64, round, sum, add, sub, mul, unlike, up, down}
+use lib.Ieee.{Float, Format, nan, inf, fin, binary64, round, sum, add, mul, unlike, up, down}
 use Rattle.phonon.specs.declared.Complex.{Complex}
 use borrow.Author.Tests.{lt-ltb, le-ltb}
 use Rattle.phonon.specs.Common.{cmul}

@@ -4,5 +4,5 @@ pub mod RegionLaws
 pub mod LayoutLaws
 pub mod Products
 pub mod ColsLaws
-pub mod SplitJoin
+pub mod SignedRead
 pub mod WorkLaws

@@ -63,6 +63,11 @@ split-append {l} {l₁} {l₂} {off} {d} {i} {j} {m} {f} {g} w v ji im h e =
     one k p (no q) =
         complex-eq (ap (at l₂) (omega arith)) (ap (at l₂) (omega arith)) ∙ v .inside (k - j) (omega arith) ∙ e (k - j) (omega arith) ∙ ap f (omega arith)
 
+-- m numbers behind the first n
+pub split-join : {l l₁ l₂ : List Float} {off o d n m : ℕ} {f g : ℕ → Complex} → WroteSplit l l₁ off d n f → WroteSplit l₁ l₂ o d m g → o ≡ off + n → n + m ≤ d
+    → ((k : ℕ) → k < m → g k ≡ f (n + k)) → WroteSplit l l₂ off d (n + m) f
+split-join w v p room e = split-append w (rw p at v) (omega arith) (omega arith) room e
+
 pub split-to : {l l₁ : List Float} {off d : ℕ} (n n′ : ℕ) {f : ℕ → Complex} → n ≡ n′ → WroteSplit l l₁ off d n f → WroteSplit l l₁ off d n′ f
 split-to n n′ e w = rw e at w
 

@@ -1,7 +1,7 @@
 -- What lies in a slice outside of the indices that a stage writes, and what a region that is written holds, as the definitions' lists.
-use mathlib.Core.Path.{_≡_, refl, sym, ap, _∙_}
+use mathlib.Core.Path.{_≡_, sym, ap, _∙_}
 use mathlib.Core.List.{List}
-use Prim.Native.Nat.{ℕ, zero, suc, _+_, _-_, _*_, _<_, _≤_}
+use Prim.Native.Nat.{ℕ, _+_, _-_, _*_, _<_, _≤_}
 use native.Mathlib.Nat.{mul-le-mul-right}
 use native.Mathlib.Omega.{arith}
 use lib.ListN.{length, take, drop, length-drop}
@@ -11,7 +11,7 @@ use Rattle.phonon.specs.declared.Complex.{Complex}
 use Rattle.phonon.specs.Number.{at, table}
 use Rattle.phonon.specs.Common.{ctable}
 use Rattle.phonon.proofs.Laws.{table-at, table-length, ctable-ext}
-use Rattle.planes.specs.Split.{split, WroteSplit}
+use Rattle.planes.specs.Split.{WroteSplit}
 use Rattle.planes.specs.Region.{Wrote, Kept}
 use Rattle.planes.specs.Layout.{numbersIn, columnIn}
 use Rattle.planes.proofs.RegionLaws.{split-kept}

@@ -3,7 +3,7 @@ use phonon::Complex;
 ghost use mathlib.Core.Path.{_≡_};
 ghost use Prim.Native.Nat.{_+_, _*_, _<_, _≤_};
 ghost use lib.ListN.{length};
-ghost use Rattle.phonon.specs.Number.{index};
+ghost use Rattle.phonon.specs.Number.{index, int};
 ghost use Rattle.phonon.specs.Sets.{part};
 ghost use Rattle.phonon.specs.Limits.{workLength};
 ghost use Rattle.planes.specs.Split.{split, putSplit};
@@ -38,6 +38,14 @@ pub fn index_of(x: i64) -> usize
         return 0;
     }
     x as usize
+}
+
+// Entry n of a table, as an index.
+pub fn index_at(table: &[i64], n: usize) -> usize
+    requires { ⌜ n < length (now table) ⌝ }
+    ensures { λ r. ⌜ r ≡ index (int (now (table .entry)) n) ⌝ }
+{
+    index_of(table[n])
 }
 
 // Part g of a slice that is cut into parts of n numbers.

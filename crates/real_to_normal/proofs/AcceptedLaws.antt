@@ -1,7 +1,7 @@
 -- What the work needs of an accepted set: the ranges of its indices, and the room of its tables and of the work buffer.
-use mathlib.Core.Path.{_≡_, refl, sym, ap, _∙_}
+use mathlib.Core.Path.{_≡_, refl, ap, _∙_}
 use mathlib.Core.List.{List, [], _∷_}
-use Prim.Native.Nat.{ℕ, zero, suc, _+_, _-_, _*_, _<_, _≤_}
+use Prim.Native.Nat.{ℕ, zero, suc, _+_, _*_, _<_, _≤_}
 use native.Mathlib.Nat.{mul-le-mul-right}
 use native.Mathlib.Numerals.{add-one}
 use native.Mathlib.Omega.{arith}
@@ -14,9 +14,8 @@ use Rattle.phonon.specs.Number.{index, int}
 use Rattle.phonon.specs.Sets.{TripletSet}
 use Rattle.phonon.specs.Limits.{workLength, rowsOf}
 use Rattle.phonon.specs.Refusal.{pointsOk, tripletRefusal}
-use Rattle.phonon.proofs.Accepted.{Measured, TableSizes, Indexed, Accepted, accepted-facts}
+use Rattle.phonon.proofs.Accepted.{Accepted, accepted-facts, index-below}
 use Rattle.real_to_reciprocal.specs.Shape.{Ranged, Anchored, rowsFor, Shaped}
-use Rattle.reciprocal_to_normal.proofs.FlagLaws.{band-lt}
 use Rattle.real_to_normal.specs.Work.{endAt}
 
 rows-are : (form : Form) (m : Measures) → rowsOf form m ≡ rowsFor form (m .atoms) (m .supercell)
@@ -83,7 +82,7 @@ module _ (s : TripletSet) (e : tripletRefusal s ≡ 0) where
 
     pub point-lt : g < s .tables .measures .grid
     unfolding pointsOk
-    point-lt = in-range (s .tables .measures .grid) (s .triplet) (facts .measured .grid) (λ k h. band-lt (s .tables .measures .grid) (s .triplet) k (facts .measured .grid) (facts .points) h) x
+    point-lt = in-range (s .tables .measures .grid) (s .triplet) (facts .measured .grid) (index-below (s .tables .measures .grid) (s .triplet) (facts .measured .grid) (facts .points)) x
 
     pub address-fits : 3 * g + 3 ≤ length (s .tables .grid .addresses)
     address-fits = omega (arith, point-lt, facts .sized .addresses)

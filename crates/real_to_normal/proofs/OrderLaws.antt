@@ -1,8 +1,7 @@
 -- One leg order: the tables that lie before the force constants are what the definition reads.
-use mathlib.Core.Path.{_≡_, refl, sym, ap, _∙_}
+use mathlib.Core.Path.{_≡_, refl, ap, _∙_}
 use mathlib.Core.List.{List}
-use Prim.Native.Nat.{ℕ, zero, suc, _+_, _*_, _<_, _≤_}
-use native.Mathlib.Nat.{mul-le-mul-right, suc-mul}
+use Prim.Native.Nat.{ℕ, zero, suc, _+_, _*_, _<_}
 use native.Mathlib.Omega.{arith}
 use lib.IntN.{ℤ}
 use lib.Ieee.{Float}
@@ -15,6 +14,7 @@ use Rattle.planes.specs.Region.{Kept}
 use Rattle.planes.specs.Layout.{numbersIn, constantsIn}
 use Rattle.planes.proofs.RegionLaws.{kept-then, kept-wider, kept-split}
 use Rattle.planes.proofs.WorkLaws.{numbers-below, numbers-wrote}
+use Rattle.planes.proofs.Products.{row-le}
 use Rattle.real_to_normal.specs.Work.{factorsAt, preAt, constantsAt, scratchAt, picked, reciprocalOf}
 
 -- the third of three, where it is neither the first nor the second
@@ -36,10 +36,6 @@ at-third b m (suc zero) h p q = absurd (q refl)
 at-third b m (suc (suc zero)) h p q = refl
 at-third b m (suc (suc (suc x))) h p q = absurd (omega arith)
 
--- the numbers of leg x end within those of the three
-pub leg-room : (x m : ℕ) → x < 3 → x * m + m ≤ 3 * m
-leg-room x m h = omega (arith, mul-le-mul-right m h, suc-mul x m)
-
 module _ (P S : ℕ) (a : Anchoring) (c : Forces) (vectors : List Float) (multiplicity : List ℤ) (q : Legs (List Float)) (x0 x1 x2 : ℕ) (p0 : x0 < 3) (p1 : x1 < 3) (p2 : x2 < 3)
     {l l₁ l₂ : List Float} {q0 q1 q2 : List Float} (e0 : q0 ≡ leg q x0) (e1 : q1 ≡ leg q x1) (e2 : q2 ≡ leg q x2)
     (f : (x : ℕ) → x < 3 → numbersIn l (factorsAt P S x) (P * S) (P * S) ≡ phaseFactors P S vectors multiplicity (leg q x))
@@ -58,7 +54,7 @@ module _ (P S : ℕ) (a : Anchoring) (c : Forces) (vectors : List Float) (multip
 
   factors-are : (x g : ℕ) → x < 3 → g ≡ factorsAt P S x → numbersIn l₁ g (P * S) (P * S) ≡ phaseFactors P S vectors multiplicity (leg q x)
   factors-are x g p e =
-      ap (λ o. numbersIn l₁ o (P * S) (P * S)) e ∙ numbers-below kept₁ (factorsAt P S x) (P * S) (P * S) (omega (arith, leg-room x (2 * (P * S)) p)) ∙ f x p
+      ap (λ o. numbersIn l₁ o (P * S) (P * S)) e ∙ numbers-below kept₁ (factorsAt P S x) (P * S) (P * S) (omega (arith, row-le (2 * (P * S)) p)) ∙ f x p
 
   pub order-is : constantsIn l₂ (constantsAt P S) P ≡ reciprocalOf P S a c vectors multiplicity (picked q x0 x1 x2)
   order-is =

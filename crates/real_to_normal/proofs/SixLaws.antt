@@ -1,5 +1,5 @@
 -- The six orders: after o of them a slot that is not flagged holds the sum of o sixths, and a flagged one 0.0.
-use mathlib.Core.Path.{_≡_, refl, sym, ap, _∙_, subst}
+use mathlib.Core.Path.{_≡_, refl, sym, ap, _∙_}
 use mathlib.Core.Bool.{Bool, true, false, cond}
 use mathlib.Core.List.{List, []}
 use Prim.Native.Nat.{ℕ, zero, suc, _+_, _-_, _*_, _<_, _≤_}
@@ -12,10 +12,10 @@ use Rattle.phonon.specs.Number.{_⊕_, _⊘_, f0, f6, at, flagged, fold, table}
 use Rattle.phonon.specs.Sets.{Forces, Legs}
 use Rattle.phonon.specs.Tests.{allWithin}
 use Rattle.phonon.specs.Interaction.{orders, leg, exchanged}
-use Rattle.phonon.specs.ReciprocalToNormal.{Phonon, strength}
+use Rattle.phonon.specs.ReciprocalToNormal.{strength}
 use Rattle.phonon.proofs.Laws.{fold-step, table-ext, table-at}
 use Rattle.planes.specs.Region.{Kept}
-use Rattle.real_to_normal.specs.Work.{columnsAt, preAt, endAt, picked, reciprocalOf, legIn, bandsOfSlot, slotIn, sixthOf}
+use Rattle.real_to_normal.specs.Work.{preAt, endAt, picked, reciprocalOf, legIn, bandsOfSlot, slotIn, sixthOf}
 use Rattle.real_to_normal.proofs.SlotLaws.{slot-bands, leg-is}
 
 -- each order is of three legs

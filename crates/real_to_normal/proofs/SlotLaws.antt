@@ -3,34 +3,25 @@ use mathlib.Core.Path.{_≡_, refl, sym, ap, _∙_, subst}
 use mathlib.Core.Bool.{true, cond}
 use mathlib.Core.List.{List, [], _∷_}
 use Prim.Native.Nat.{ℕ, zero, suc, _+_, _-_, _*_, _/_, _%_, _<_, _≤_}
-use native.Mathlib.Nat.{suc-mul}
-use native.Mathlib.Numerals.{add-one}
 use native.Mathlib.Omega.{arith}
 use lib.IntN.{ℤ, pos}
-use lib.ListN.{length, getD, take, drop, length-drop}
-use lib.Seq.{length-take-le}
+use lib.ListN.{length, getD}
 use lib.Ieee.{Float}
 use Rattle.phonon.specs.Number.{_⊕_, _⊘_, f6, at, index, int, flagged, table}
-use Rattle.phonon.specs.Sets.{Legs, slot}
+use Rattle.phonon.specs.Sets.{Legs, slot, part}
 use Rattle.phonon.specs.Tests.{allWithin}
 use Rattle.phonon.specs.Interaction.{leg}
-use Rattle.phonon.specs.ReciprocalToNormal.{Phonon, strength}
+use Rattle.phonon.specs.ReciprocalToNormal.{strength}
 use Rattle.phonon.proofs.Laws.{table-ext, pair-lt}
+use Rattle.phonon.proofs.Accepted.{index-below}
 use Rattle.planes.specs.Region.{Kept}
 use Rattle.planes.specs.Layout.{columnIn, phononIn, constantsIn}
 use Rattle.planes.proofs.WorkLaws.{column-below}
+use Rattle.planes.proofs.Products.{row-le}
 use Rattle.reciprocal_to_normal.specs.Slots.{bOf, jOf, kOf}
 use Rattle.reciprocal_to_normal.specs.Listing.{WroteAbove, sourcePlace}
-use Rattle.reciprocal_to_normal.proofs.FlagLaws.{band-lt}
 use Rattle.reciprocal_to_normal.proofs.SlotLaws.{b-of, j-of, k-of, j-lt, k-lt, b-lt}
-use Rattle.real_to_normal.specs.Work.{columnsAt, preAt, constantsAt, scratchAt, legIn, bandsOfSlot, slotIn}
-use Rattle.real_to_normal.proofs.OrderLaws.{leg-room}
-
--- the frequencies of one leg are n
-pub stretch-length : (l : List Float) (g n : ℕ) {x : List Float} → (g + 1) * n ≤ length l → x ≡ take n (drop (g * n) l) → n ≤ length x
-stretch-length l g n h e =
-    let b : (g + 1) * n ≡ g * n + n = rw add-one (suc-mul g n) in
-    omega (arith, ap length e, length-take-le n (drop (g * n) l) (omega (arith, length-drop (g * n) l)))
+use Rattle.real_to_normal.specs.Work.{columnsAt, legIn, bandsOfSlot, slotIn}
 
 -- the frequencies of one of three grid points are within the slice
 pub leg-fits : (g0 g1 g2 x n : ℕ) {m : ℕ} (g : ℕ) → g ≡ leg (record { leg0 = g0; leg1 = g1; leg2 = g2 }) x → (g0 + 1) * n ≤ m → (g1 + 1) * n ≤ m → (g2 + 1) * n ≤ m → (g + 1) * n ≤ m
@@ -49,23 +40,23 @@ pick-list x y z (suc (suc (suc o))) h = absurd (omega arith)
 pub slot-bands : (P : ℕ) (bands : List ℤ) (m : ℕ) → 1 ≤ P → allWithin (pos 0) (pos (3 * P - 1)) bands ≡ true → m < length bands * (3 * P) * (3 * P)
     → (x : ℕ) → leg (bandsOfSlot P bands m) x < 3 * P
 unfolding bOf jOf kOf
-slot-bands P bands m p w h zero = band-lt (3 * P) bands (m / (3 * P) / (3 * P)) (omega arith) w (b-lt (3 * P) (length bands) m (omega arith) h)
+slot-bands P bands m p w h zero = index-below (3 * P) bands (omega arith) w (m / (3 * P) / (3 * P)) (b-lt (3 * P) (length bands) m (omega arith) h)
 slot-bands P bands m p w h (suc zero) = j-lt (3 * P) m (omega arith)
 slot-bands P bands m p w h (suc (suc x)) = k-lt (3 * P) m (omega arith)
 
 module _ (P S : ℕ) (frequencies : List Float) (g : Legs ℕ) {l l₁ : List Float} {a b : ℕ} (k : Kept l l₁ a b) (behind : columnsAt P 3 ≤ a) where
-  pub leg-is : (x n : ℕ) (e : ℕ) (fr : List Float) → x < 3 → n < 3 * P → e ≡ columnsAt P x → fr ≡ take (3 * P) (drop (leg g x * (3 * P)) frequencies)
+  pub leg-is : (x n : ℕ) (e : ℕ) (fr : List Float) → x < 3 → n < 3 * P → e ≡ columnsAt P x → fr ≡ part (3 * P) (leg g x) frequencies
       → phononIn l₁ e (3 * P) fr n ≡ legIn l P frequencies g x n
   leg-is x n e fr p h ee ef =
       let c : columnIn l₁ e (3 * P) n ≡ columnIn l (columnsAt P x) (3 * P) n =
-      ap (λ o. columnIn l₁ o (3 * P) n) ee ∙ column-below k (columnsAt P x) (3 * P) n (omega (arith, leg-room x (2 * (3 * P * (3 * P))) p)) h in
+      ap (λ o. columnIn l₁ o (3 * P) n) ee ∙ column-below k (columnsAt P x) (3 * P) n (omega (arith, row-le (2 * (3 * P * (3 * P))) p)) h in
       λ i. record { frequency = at (ef i) n; column = c i }
 
   -- the slots that are not flagged
   pub plain-is : (bands : List ℤ) (flags : List ℕ) (before constants : List Float) (cutoff : Float) (fo : ℕ) {out : List Float} {e0 e1 e2 : ℕ} {f0 f1 f2 : List Float}
       → 1 ≤ P → allWithin (pos 0) (pos (3 * P - 1)) bands ≡ true → constantsIn l₁ fo P ≡ constants
       → e0 ≡ columnsAt P 0 → e1 ≡ columnsAt P 1 → e2 ≡ columnsAt P 2
-      → f0 ≡ take (3 * P) (drop (g .leg0 * (3 * P)) frequencies) → f1 ≡ take (3 * P) (drop (g .leg1 * (3 * P)) frequencies) → f2 ≡ take (3 * P) (drop (g .leg2 * (3 * P)) frequencies)
+      → f0 ≡ part (3 * P) (g .leg0) frequencies → f1 ≡ part (3 * P) (g .leg1) frequencies → f2 ≡ part (3 * P) (g .leg2) frequencies
       → out ≡ table (length bands * (3 * P) * (3 * P)) (λ m. cond (flagged flags m) (at before m) (strength P (constantsIn l₁ fo P) (record {
         leg0 = phononIn l₁ e0 (3 * P) f0 (index (int bands (m / (3 * P) / (3 * P))));
         leg1 = phononIn l₁ e1 (3 * P) f1 (m / (3 * P) % (3 * P));
@@ -85,7 +76,7 @@ module _ (P S : ℕ) (frequencies : List Float) (g : Legs ℕ) {l l₁ : List Fl
       → 1 ≤ P → allWithin (pos 0) (pos (3 * P - 1)) bands ≡ true → constantsIn l₁ fo P ≡ constants
       → getD order 0 0 < 3 → getD order 1 0 < 3 → getD order 2 0 < 3
       → e0 ≡ columnsAt P (getD order 0 0) → e1 ≡ columnsAt P (getD order 1 0) → e2 ≡ columnsAt P (getD order 2 0)
-      → f0 ≡ take (3 * P) (drop (leg g (getD order 0 0) * (3 * P)) frequencies) → f1 ≡ take (3 * P) (drop (leg g (getD order 1 0) * (3 * P)) frequencies) → f2 ≡ take (3 * P) (drop (leg g (getD order 2 0) * (3 * P)) frequencies)
+      → f0 ≡ part (3 * P) (leg g (getD order 0 0)) frequencies → f1 ≡ part (3 * P) (leg g (getD order 1 0)) frequencies → f2 ≡ part (3 * P) (leg g (getD order 2 0)) frequencies
       → WroteAbove l₁ l₂ so (so + 2 * (3 * P * (3 * P)) + 2 * (3 * P)) to (3 * P * (3 * P * (3 * P))) (λ n. strength P (constantsIn l₁ fo P) (record {
         leg0 = phononIn l₁ e0 (3 * P) f0 (n / (3 * P) / (3 * P));
         leg1 = phononIn l₁ e1 (3 * P) f1 (n / (3 * P) % (3 * P));
@@ -118,7 +109,3 @@ module _ (P S : ℕ) (frequencies : List Float) (g : Legs ℕ) {l l₁ : List Fl
       let v = ap (phononIn l₁ e1 B f1) (j-of B n1 n2 (leg (bandsOfSlot P bands m) (getD order 0 0))) ∙ leg-is (getD order 1 0) _ e1 f1 o1 n1 h1 i1 in
       let t = ap (phononIn l₁ e2 B f2) (k-of B n1 n2 (leg (bandsOfSlot P bands m) (getD order 0 0))) ∙ leg-is (getD order 2 0) _ e2 f2 o2 n2 h2 i2 in
       ap (λ q. cond (flagged flags m) (at before m) (at before m ⊕ q ⊘ f6)) (a ∙ (λ i. strength P (ec i) (record { leg0 = u i; leg1 = v i; leg2 = t i }) cutoff)))
-
--- a listing that is written leaves all as it was before its scratch and behind its end
-pub above-kept : {l l′ : List Float} {a b off n : ℕ} {f : ℕ → Float} (lo hi : ℕ) → lo ≤ a → off + n ≤ hi → lo ≤ off → WroteAbove l l′ a b off n f → Kept l l′ lo hi
-above-kept lo hi p q r w = record { size = w .size; before = λ j h. w .before j (omega arith); after = λ j h. w .after j (omega arith) }

@@ -14,8 +14,8 @@ use Rattle.phonon.specs.declared.Anchoring.{Anchoring}
 use Rattle.phonon.specs.declared.Measures.{Measures}
 use Rattle.phonon.specs.declared.Symmetry.{Symmetry}
 use Rattle.phonon.specs.declared.Symmetry.the-variants.{Off, Symmetrized}
-use Rattle.phonon.specs.Number.{_⊕_, _⊘_, f0, f6, at, index, int, flagged, fold, table}
-use Rattle.phonon.specs.Sets.{Forces, Phonons, Triplet, bandsOf, slot, slots, Legs}
+use Rattle.phonon.specs.Number.{_⊕_, _⊘_, f0, f6, at, flagged, fold, table}
+use Rattle.phonon.specs.Sets.{Forces, Triplet, slots, Legs}
 use Rattle.phonon.specs.Tests.{allWithin}
 use Rattle.phonon.specs.RealToReciprocal.{reciprocal}
 use Rattle.phonon.specs.ReciprocalToNormal.{inverseRoots, Phonon, phononAt, strength}
@@ -23,12 +23,11 @@ use Rattle.phonon.specs.Interaction.{orders, leg, exchanged, legQ, point, order
 use Rattle.phonon.specs.Limits.{workLength}
 use Rattle.phonon.specs.Doors.{cleared}
 use Rattle.phonon.proofs.Laws.{fold-ext, table-ext, table-at}
-use Rattle.planes.specs.Layout.{columnIn, phononIn}
 use Rattle.planes.specs.Region.{Kept}
 use Rattle.planes.proofs.WorkLaws.{drop-kept}
 use Rattle.reciprocal_to_normal.specs.Slots.{bOf, jOf, kOf}
 use Rattle.reciprocal_to_normal.proofs.SlotLaws.{slot-of}
-use Rattle.real_to_normal.specs.Work.{Prepared, picked, reciprocalOf, legIn, bandsOfSlot, slotIn, sixthOf, slotPhonons, slotValue}
+use Rattle.real_to_normal.specs.Work.{Prepared, picked, reciprocalOf, legIn, slotIn, sixthOf, slotPhonons, slotValue}
 use Rattle.real_to_normal.proofs.SlotLaws.{slot-bands}
 
 -- ---- numbers that are cleared one by one

@@ -11,13 +11,12 @@ use mathlib.Core.Bool.{cond}
 use mathlib.Core.List.{List}
 use Prim.Native.Nat.{ℕ, _+_, _*_, _/_, _%_, _<_}
 use lib.IntN.{ℤ}
-use lib.ListN.{take, drop}
 use lib.Ieee.{Float}
 use Rattle.phonon.specs.declared.Anchoring.{Anchoring}
 use Rattle.phonon.specs.declared.Symmetry.{Symmetry}
 use Rattle.phonon.specs.declared.Symmetry.the-variants.{Off, Symmetrized}
 use Rattle.phonon.specs.Number.{_⊕_, _⊘_, f0, f6, index, int, flagged, fold}
-use Rattle.phonon.specs.Sets.{Forces, Phonons, Legs}
+use Rattle.phonon.specs.Sets.{Forces, Phonons, Legs, part}
 use Rattle.phonon.specs.Interaction.{leg, exchanged}
 use Rattle.phonon.specs.RealToReciprocal.{phaseFactors, preFactors, reciprocalFrom}
 use Rattle.phonon.specs.ReciprocalToNormal.{inverseRoots, column, Phonon, phononAt, strength}
@@ -63,7 +62,7 @@ reciprocalOf P S a forces vectors multiplicity q =
 
 -- band n of leg x, as the slice l holds it: the legs' grid points are g
 abbrev pub legIn : List Float → ℕ → List Float → Legs ℕ → ℕ → ℕ → Phonon
-legIn l P frequencies g x n = phononIn l (columnsAt P x) (3 * P) (take (3 * P) (drop (leg g x * (3 * P)) frequencies)) n
+legIn l P frequencies g x n = phononIn l (columnsAt P x) (3 * P) (part (3 * P) (leg g x) frequencies) n
 
 -- the bands of slot number m, by legs
 abbrev pub bandsOfSlot : ℕ → List ℤ → ℕ → Legs ℕ

@@ -5,14 +5,13 @@ use reciprocal_to_normal::scale::scale_eigenvectors;
 ghost use mathlib.Core.Path.{_≡_};
 ghost use Prim.Native.Nat.{ℕ, _+_, _*_, _<_, _≤_};
 ghost use lib.ListN.{length, take, drop};
-ghost use Rattle.phonon.specs.Sets.{Legs};
 ghost use Rattle.phonon.specs.Interaction.{leg};
 ghost use Rattle.phonon.specs.RealToReciprocal.{phaseFactors};
 ghost use Rattle.phonon.specs.ReciprocalToNormal.{column};
 ghost use Rattle.planes.specs.Region.{Kept};
 ghost use Rattle.planes.specs.Layout.{columnIn, numbersIn};
 ghost use Rattle.real_to_reciprocal.specs.Shape.{Ranged};
-ghost use Rattle.real_to_normal.specs.Work.{columnsAt, factorsAt, preAt, endAt, Prepared};
+ghost use Rattle.real_to_normal.specs.Work.{columnsAt, factorsAt, preAt, Prepared};
 
 // The eigenvectors at grid points g0, g1 and g2, scaled by the inverse roots at the start of w.
 fn scale_legs(w: &mut [f64], eigenvectors: &[f64], np: usize, g0: usize, g1: usize, g2: usize)

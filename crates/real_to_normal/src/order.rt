@@ -6,7 +6,6 @@ use real_to_reciprocal::real_to_reciprocal;
 ghost use mathlib.Core.Path.{_≡_};
 ghost use Prim.Native.Nat.{ℕ, _+_, _*_, _^_, _<_, _≤_};
 ghost use lib.ListN.{length};
-ghost use Rattle.phonon.specs.Sets.{Legs, Forces};
 ghost use Rattle.phonon.specs.Interaction.{leg};
 ghost use Rattle.phonon.specs.RealToReciprocal.{phaseFactors};
 ghost use Rattle.planes.specs.Region.{Kept};

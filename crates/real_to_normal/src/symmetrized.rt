@@ -3,18 +3,18 @@ use crate::order::leg_at;
 use crate::order::order_constants;
 use phonon::Anchoring;
 use phonon::Form;
+use planes::leg_frequencies;
 use reciprocal_to_normal::gather::clear;
 use reciprocal_to_normal::gather::gather_sixth;
 use reciprocal_to_normal::listing::full_strengths;
-use reciprocal_to_normal::scale::leg_frequencies;
 ghost use mathlib.Core.Path.{_≡_};
 ghost use mathlib.Core.Bool.{true, cond};
 ghost use mathlib.Core.List.{[]};
 ghost use Prim.Native.Nat.{ℕ, _+_, _-_, _*_, _<_, _≤_};
 ghost use lib.IntN.{pos};
-ghost use lib.ListN.{length, getD, take, drop};
+ghost use lib.ListN.{length, getD};
 ghost use Rattle.phonon.specs.Number.{_⊕_, _⊘_, f0, f6, at, flagged, fold, table};
-ghost use Rattle.phonon.specs.Sets.{Legs, Forces};
+ghost use Rattle.phonon.specs.Sets.{part};
 ghost use Rattle.phonon.specs.Tests.{allWithin};
 ghost use Rattle.phonon.specs.Interaction.{orders, leg};
 ghost use Rattle.phonon.specs.RealToReciprocal.{phaseFactors};
@@ -55,7 +55,7 @@ fn pick_point(g0: usize, g1: usize, g2: usize, x: usize) -> usize
     g2
 }
 
-// The frequencies of leg x: a part of the lent slice.
+// The frequencies of leg x: the caller's own stretch, uncopied.
 fn frequencies_of(
     frequencies: &[f64],
     g0: usize,
@@ -65,7 +65,7 @@ fn frequencies_of(
     nb: usize,
 ) -> &[f64]
     requires { ⌜ ((g0 + 1) * nb ≤ length (now frequencies)) × ((g1 + 1) * nb ≤ length (now frequencies)) × ((g2 + 1) * nb ≤ length (now frequencies)) ⌝ }
-    ensures { λ r. ⌜ (now r ≡ take nb (drop (leg (record { leg0 = g0; leg1 = g1; leg2 = g2 }) x * nb) (now (frequencies .entry)))) × (nb ≤ length (now r)) ⌝ }
+    ensures { λ r. ⌜ (now r ≡ part nb (leg (record { leg0 = g0; leg1 = g1; leg2 = g2 }) x) (now (frequencies .entry))) × (length (now r) ≡ nb) ⌝ }
 {
     leg_frequencies(frequencies, pick_point(g0, g1, g2, x), nb)
 }

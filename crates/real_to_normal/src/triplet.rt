@@ -17,7 +17,6 @@ ghost use Prim.Native.Nat.{_+_, _-_, _*_, _≤_};
 ghost use lib.IntN.{pos};
 ghost use lib.ListN.{length, drop, replicate};
 ghost use Rattle.phonon.specs.Number.{f0, at, table};
-ghost use Rattle.phonon.specs.Sets.{Legs, Forces, Phonons};
 ghost use Rattle.phonon.specs.Tests.{allWithin};
 ghost use Rattle.phonon.specs.Interaction as Interaction;
 ghost use Rattle.phonon.specs.ReciprocalToNormal.{inverseRoots};

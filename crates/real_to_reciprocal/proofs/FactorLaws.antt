@@ -15,7 +15,7 @@ use Rattle.phonon.proofs.Laws.{fold-ext, ctable-at, pair-lt}
 use Rattle.planes.specs.Split.{split}
 use Rattle.planes.specs.Region.{Kept}
 use Rattle.planes.specs.Layout.{numbersIn}
-use Rattle.planes.proofs.SplitLaws.{complex-eq}
+use Rattle.planes.proofs.RegionLaws.{split-kept}
 use Rattle.real_to_reciprocal.specs.Stored.{factorsIn, componentAt}
 
 pub element-ext : (P S : ℕ) (c : Forces) (g : Leg) (p p′ r r′ : ℕ → Complex) (i a b e : ℕ) → ((n : ℕ) → n < P * S → p n ≡ p′ n) → ((n : ℕ) → n < P * S → r n ≡ r′ n) → i < P
@@ -41,11 +41,7 @@ anchored-ext {P} {S} {w} {w′} c i j k l m n Averaged h pi pj pk =
     (ap₂ cmul (element-ext P S c _ _ _ _ _ j i k _ (h .leg0) (h .leg2) pj) (h .pre j pj)))
     (ap₂ cmul (element-ext P S c _ _ _ _ _ k j i _ (h .leg1) (h .leg0) pk) (h .pre k pk)))
 
--- factors below a region that is written
-split-kept : {l l₁ : List Float} {a b : ℕ} → Kept l l₁ a b → (off d n : ℕ) → n < d → off + 2 * d ≤ a → split l₁ off d n ≡ split l off d n
-split-kept w off d n p h = complex-eq (w .before _ (omega arith)) (w .before _ (omega arith))
-
--- what lies below fo
+-- the factors lie below fo
 pub record Below (fo po f0 f1 f2 P S : ℕ) : Type 0 where
   pub pre : po + 2 * P ≤ fo
   pub leg0 : f0 + 2 * (P * S) ≤ fo
@@ -55,10 +51,10 @@ pub record Below (fo po f0 f1 f2 P S : ℕ) : Type 0 where
 module _ {fo po f0 f1 f2 P S : ℕ} (h : Below fo po f0 f1 f2 P S) {l l₁ : List Float} {b : ℕ} (w : Kept l l₁ fo b) where
   kept-agree : Agree P S (factorsIn l₁ po f0 f1 f2 P S) (factorsIn l po f0 f1 f2 P S)
   kept-agree = record {
-    pre = λ k p. split-kept w po P k p (h .pre);
-    leg0 = λ n p. split-kept w f0 (P * S) n p (h .leg0);
-    leg1 = λ n p. split-kept w f1 (P * S) n p (h .leg1);
-    leg2 = λ n p. split-kept w f2 (P * S) n p (h .leg2);
+    pre = λ k p. split-kept w po P k (omega (arith, h .pre));
+    leg0 = λ n p. split-kept w f0 (P * S) n (omega (arith, h .leg0));
+    leg1 = λ n p. split-kept w f1 (P * S) n (omega (arith, h .leg1));
+    leg2 = λ n p. split-kept w f2 (P * S) n (omega (arith, h .leg2));
   }
 
   pub component-kept : (c : Forces) (a : Anchoring) (al bm cn : ℕ) → al < 3 * P → bm < 3 * P → cn < 3 * P

@@ -1,4 +1,3 @@
-pub mod SignedRead
 pub mod QLaws
 pub mod TestLaws
 pub mod PhaseLaws

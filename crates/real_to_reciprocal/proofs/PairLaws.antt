@@ -1,6 +1,6 @@
 -- The turn of one pair of supercell atoms.
-use mathlib.Core.Path.{_≡_, refl, sym, _∙_}
-use mathlib.Core.Bool.{Bool, true, false, not, _&&_}
+use mathlib.Core.Path.{_≡_, sym, _∙_}
+use mathlib.Core.Bool.{Bool, true, false, not, and-false}
 use mathlib.Core.List.{List}
 use Prim.Native.Nat.{ℕ, _+_, _*_}
 use lib.ListN.{getD}
@@ -15,10 +15,6 @@ use Rattle.real_to_reciprocal.specs.Pair.{pairStep}
 
 pub add-of : {r a b a′ b′ : Complex} → r ≡ cadd a b → a ≡ a′ → b ≡ b′ → r ≡ cadd a′ b′
 add-of p e f = p ∙ rw (e, f)
-
-and-false : (a : Bool) → (a && false) ≡ false
-and-false true = refl
-and-false false = refl
 
 module _ (shortest nonzero : List ℕ) (constants : List Float) (g : Leg) (p r : ℕ → Complex) (S i row j k e : ℕ) (t : Complex) where
   abbrev step : Complex

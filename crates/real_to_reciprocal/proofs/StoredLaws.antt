@@ -10,23 +10,17 @@ use lib.Ieee.{Float}
 use Rattle.phonon.specs.declared.Complex.{Complex}
 use Rattle.phonon.specs.Number.{at}
 use Rattle.planes.specs.Split.{split, WroteSplit}
-use Rattle.planes.specs.Region.{Kept}
 use Rattle.planes.specs.Layout.{constantAt}
 use Rattle.planes.proofs.SplitLaws.{complex-eq, split-at}
+use Rattle.planes.proofs.RegionLaws.{kept-none, kept-then}
 use Rattle.planes.proofs.Products.{row-le, le-times, row-same, place-same}
 use Rattle.real_to_reciprocal.specs.Stored.{Box, Stored}
-
-pub kept-none : {l : List Float} {a b : ℕ} → Kept l l a b
-kept-none = record { size = refl; before = λ j p. refl; after = λ j p. refl }
-
-pub kept-then : {l l₁ l₂ : List Float} {a b : ℕ} → Kept l l₁ a b → Kept l₁ l₂ a b → Kept l l₂ a b
-kept-then w v = record { size = v .size ∙ w .size; before = λ j p. v .before j p ∙ w .before j p; after = λ j p. v .after j p ∙ w .after j p }
 
 -- ---- sets of entries
 
 module _ {l : List Float} {fo P : ℕ} {f : ℕ → ℕ → ℕ → Complex} where
   pub stored-none : (In : ℕ → ℕ → ℕ → Type 0) → ((al bm cn : ℕ) → In al bm cn → ⊥) → Stored l l fo P In f
-  stored-none In h = record { kept = kept-none; inside = λ al bm cn p q r e. absurd (h al bm cn e); other = λ al bm cn p q r n. refl }
+  stored-none In h = record { kept = kept-none l _ _; inside = λ al bm cn p q r e. absurd (h al bm cn e); other = λ al bm cn p q r n. refl }
 
   pub stored-then : {l₁ l₂ : List Float} {D E : ℕ → ℕ → ℕ → Type 0} (G : ℕ → ℕ → ℕ → Type 0) → Stored l l₁ fo P D f → Stored l₁ l₂ fo P E f
       → ((al bm cn : ℕ) → G al bm cn → E al bm cn ⊎ (D al bm cn × (E al bm cn → ⊥))) → ((al bm cn : ℕ) → D al bm cn → G al bm cn) → ((al bm cn : ℕ) → E al bm cn → G al bm cn) → Stored l l₂ fo P G f

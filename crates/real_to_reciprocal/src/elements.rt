@@ -1,5 +1,4 @@
 // The sums over pairs of supercell atoms: 27 numbers for each three atoms of the primitive cell.
-use crate::entries::index_at;
 use common::cmplx_add;
 use common::cmplx_mul;
 use common::cmplx_scale;
@@ -7,6 +6,7 @@ use phonon::Complex;
 use phonon::Form;
 use phonon::Leg;
 use planes::get_split;
+use planes::index_at;
 use planes::put_split;
 ghost use mathlib.Core.Path.{_≡_};
 ghost use Prim.Native.Nat.{_+_, _*_, _<_, _≤_};

@@ -1,11 +1,11 @@
 // q vectors, and the phase factors and pre-factors that they give.
-use crate::entries::index_at;
 use common::cmplx_add;
 use common::cmplx_scale;
 use common::float_of;
 use common::float_of_count;
 use funcs::sin_cos;
 use phonon::Complex;
+use planes::index_at;
 use planes::put_split;
 ghost use mathlib.Core.Path.{_≡_};
 ghost use Prim.Native.Nat.{_+_, _*_, _<_, _≤_};

@@ -16,9 +16,9 @@ use Rattle.planes.specs.Layout.{constantsIn, columnIn}
 use Rattle.planes.proofs.SplitLaws.{split-at, split-below}
 use Rattle.planes.proofs.RegionLaws.{split-kept}
 use Rattle.planes.proofs.LayoutLaws.{column-at, constants-at}
+use Rattle.planes.proofs.Products.{row-le}
 use Rattle.reciprocal_to_normal.specs.Arrays.{contracted, amplitudeFrom}
 use Rattle.reciprocal_to_normal.specs.Slots.{bOf, jOf, kOf, InColumn, planeSlot, slotStrength}
-use Rattle.reciprocal_to_normal.proofs.ContractLaws.{row-le}
 use Rattle.reciprocal_to_normal.proofs.DotLaws.{dot-ext, dot-commutes}
 
 module _ (B : ℕ) {m m′ e1 e1′ e2 e2′ : ℕ → Complex} (em : (i : ℕ) → i < B * B → m i ≡ m′ i) (ef : (i : ℕ) → i < B * B → e1 i ≡ e1′ i) (eg : (i : ℕ) → i < B * B → e2 i ≡ e2′ i) where

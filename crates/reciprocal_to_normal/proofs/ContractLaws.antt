@@ -1,19 +1,13 @@
 -- Turns of the contraction with leg 0.
 use mathlib.Core.Path.{_≡_, refl}
 use mathlib.Core.Bool.{Bool, true, false}
-use Prim.Native.Nat.{ℕ, _+_, _*_, _<_, _≤_}
-use native.Mathlib.Nat.{mul-le-mul-right, suc-mul}
-use native.Mathlib.Omega.{arith}
+use Prim.Native.Nat.{ℕ, _+_, _<_}
 use Rattle.phonon.specs.declared.Complex.{Complex}
 use Rattle.phonon.specs.Number.{fold}
 use Rattle.phonon.specs.Common.{czero, cadd, cmul, isZero}
 use Rattle.phonon.specs.ReciprocalToNormal.{addUnlessZero}
 use Rattle.phonon.proofs.Laws.{fold-ext, fold-step}
 use Rattle.reciprocal_to_normal.specs.Arrays.{contracted}
-
--- a whole row, of n entries each, below m rows
-pub row-le : {i m : ℕ} (n : ℕ) → i < m → i * n + n ≤ m * n
-row-le {i} {m} n h = let a = mul-le-mul-right n h in let e = suc-mul i n in omega arith
 
 module _ {e e′ : Complex} {t : Bool} (ee : e ≡ e′) (te : t ≡ isZero e) (x v : Complex) where
   pub pass : t ≡ true → v ≡ addUnlessZero e′ x v

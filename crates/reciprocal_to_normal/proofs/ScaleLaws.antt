@@ -15,7 +15,7 @@ use Rattle.phonon.proofs.Laws.{ctable-ext, div-of, pair-lt}
 use Rattle.planes.specs.Split.{WroteSplit}
 use Rattle.planes.specs.Layout.{columnIn}
 use Rattle.planes.proofs.RegionLaws.{split-append, split-to}
-use Rattle.reciprocal_to_normal.proofs.ContractLaws.{row-le}
+use Rattle.planes.proofs.Products.{row-le}
 
 -- all atoms' runs are the whole plane
 pub runs-all : (np : ℕ) → np * (3 * (3 * np)) ≡ 3 * np * (3 * np)

@@ -1,6 +1,6 @@
 // What the slots of a symmetrized triplet gather of the full listing of each leg order.
-use crate::slots::band_at;
 use crate::slots::is_flagged;
+use planes::index_at;
 ghost use mathlib.Core.Path.{_≡_};
 ghost use mathlib.Core.Bool.{true, cond};
 ghost use Prim.Native.Nat.{_+_, _-_, _*_, _/_, _%_, _<_, _≤_};
@@ -104,7 +104,7 @@ pub fn gather_sixth(
 {
     let nb = 3 * np;
     for b in 0..bands.len() {
-        let n = band_at(bands, b);
+        let n = index_at(bands, b);
         gather_plane(out, flags, w, to, order, nb, n, b);
     }
 }

@@ -1,4 +1,4 @@
-// scale_and_transpose, not transposed: the eigenvectors of one leg, scaled by the masses. The frequencies of one leg.
+// scale_and_transpose, not transposed: the eigenvectors of one leg, scaled by the masses.
 use common::cmplx_scale;
 use common::root;
 use phonon::Complex;
@@ -57,14 +57,4 @@ pub fn scale_eigenvectors(
         let s = w[io + a];
         scale_run(w, eo + a * run, d, eigenvectors, g * d + a * run, run, s);
     }
-}
-
-// The frequencies at grid point g: a part of the lent slice.
-pub fn leg_frequencies(frequencies: &[f64], g: usize, nb: usize) -> &[f64]
-    requires { ⌜ (g + 1) * nb ≤ length (now frequencies) ⌝ }
-    ensures { λ r. ⌜ now r ≡ take nb (drop (g * nb) (now (frequencies .entry))) ⌝ }
-{
-    let from = g * nb;
-    let to = from + nb;
-    &frequencies[from..to]
 }

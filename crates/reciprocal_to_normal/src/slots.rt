@@ -4,7 +4,7 @@ use crate::dot::cmplx_dot_partial4;
 use crate::row::contract_row;
 use crate::strength::strength_of;
 use planes::get_split;
-use planes::index_of;
+use planes::index_at;
 ghost use mathlib.Core.Path.{_≡_};
 ghost use mathlib.Core.Bool.{true, cond};
 ghost use Prim.Native.Nat.{_+_, _-_, _*_, _/_, _%_, _<_, _≤_};
@@ -252,14 +252,6 @@ fn fill_plane(
     }
 }
 
-// Band b of the table, as an index.
-pub fn band_at(bands: &[i64], b: usize) -> usize
-    requires { ⌜ b < length (now bands) ⌝ }
-    ensures { λ r. ⌜ r ≡ index (int (now (bands .entry)) b) ⌝ }
-{
-    index_of(bands[b])
-}
-
 // All slots, from the force constants at fo and the scaled eigenvectors of the three legs at e0, e1 and e2. From so on lie
 // the contracted matrix, its row and the amplitudes.
 pub fn reciprocal_to_normal_squared(
@@ -293,7 +285,7 @@ pub fn reciprocal_to_normal_squared(
     let nb = 3 * np;
     let ro = so + 2 * (nb * nb);
     for b in 0..bands.len() {
-        let n = band_at(bands, b);
+        let n = index_at(bands, b);
         let x = freqs0[n];
         contract_fc3_e0(w, so, fo, e0 + n, nb);
         fill_plane(

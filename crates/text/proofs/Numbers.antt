@@ -1,17 +1,18 @@
 -- Numbers as text: the fewest decimal digits, 16 hexadecimal digits, and the bits of an f64.
 use Prim.Native.Nat.{ℕ, zero, suc, _-_, _*_, _/_, _%_, _^_, _≤_, _<_}
-use mathlib.Core.Bool.{true, false, not}
+use mathlib.Core.Bool.{true, false, not, true≢false}
 use mathlib.Core.Path.{_≡_, refl, sym, _∙_, ap, subst}
 use mathlib.Core.List.{List, [], _∷_, _++_}
 use native.Mathlib.Decide.{decLt}
 use native.Mathlib.Nat.{pow-succ', one-le-pow, pow-le-pow-right}
 use native.Mathlib.Omega.{arith}
-use borrow.Author.Tests.{lt-ltb, le-ltb}
+use borrow.Author.Tests.{lt-ltb, le-ltb, not-false}
 use lib.Dec.{T}
-use lib.Ieee.{Float, nan, inf, fin, isNan, ne, binary64, toBits}
+use lib.Ieee.{Float, nan, inf, fin, isNan, eq, ne, binary64, toBits}
 use lib.Ieee.Compare.{differs-from-itself, nan-differs}
 use lib.ListN.{take}
 use Rattle.io.specs.Digits.{digits, glyph, Fewest}
+use Rattle.phonon.proofs.Order.{no-nan}
 use Rattle.text.specs.Lines.{decimalOf, bitsOf}
 
 -- ---- how many digits
@@ -68,17 +69,12 @@ pub bits-nan : (x : Float) → ne x x ≡ true → 0x7ff8_0000_0000_0000 ≡ bit
 unfolding bitsOf
 bits-nan x e = rw (differs-from-itself x (subst T (sym e) tt)) refl
 
-nan-is-not : ne nan nan ≡ false → ⊥
-nan-is-not e = let z : _≡_ {A = ℕ} 0 1 = cc nan-differs in omega arith
-
 pub is-number : (x : Float) → ne x x ≡ false → T (not (isNan x))
-unfolding isNan
-is-number nan e = absurd (nan-is-not e)
-is-number (inf s) e = tt
-is-number (fin s m d) e = tt
+unfolding ne
+is-number x e = no-nan x (not-false (eq x x) e)
 
 pub bits-number : (x : Float) → ne x x ≡ false → toBits binary64 x ≡ bitsOf x
 unfolding bitsOf
-bits-number nan e = absurd (nan-is-not e)
+bits-number nan e = absurd (true≢false (sym nan-differs ∙ e))
 bits-number (inf s) e = refl
 bits-number (fin s m d) e = refl

@@ -1,18 +1,12 @@
 -- An array whose entries are read one by one is its slice; and a call's answer is made from the door's.
-use Prim.Native.Nat.{ℕ, zero, suc, _<_, _≤_, _^_}
-use mathlib.Core.Path.{_≡_, refl, sym, ap, _∙_}
+use Prim.Native.Nat.{ℕ, zero, suc}
+use mathlib.Core.Path.{_≡_, refl, ap, _∙_}
 use mathlib.Core.Bool.{Bool, true, false, _&&_}
 use mathlib.Core.List.{List, [], _∷_}
-use native.Mathlib.Omega.{arith}
 use lib.IntN.{ℤ, pos}
 use lib.ListN.{length, getD}
-use lib.Dec.{leb, eqb}
-use lib.Signed.{mag}
-use borrow.Author.Needs.{sfits-of}
+use lib.Dec.{eqb}
 use borrow.Author.Tests.{eqb-true}
-use mir.Val.{toZ, ofZ, hbits}
-use mir.ValLaws.{toZ-ofZ}
-use mir.Syntax.{w64}
 use lib.Ieee.{Float}
 use Rattle.phonon.specs.declared.Answer.{Answer}
 use Rattle.phonon.specs.declared.Anchoring.{Anchoring}
@@ -24,10 +18,6 @@ use Rattle.phonon.proofs.Accepted.{and-both}
 use Rattle.wirambolo_c.specs.Foreign.{known, tablesRead, Strengths, Totals, Joined, tripletAnswer, listAnswer, totalsAnswer, joinedAnswer}
 
 -- ---- arrays
-
--- a number that was read is passed on by its bits, which say the same number
-pub read : {z : ℤ} → mag z < 2 ^ hbits w64 → toZ w64 (ofZ w64 z) ≡ z
-read h = toZ-ofZ w64 _ (sfits-of h)
 
 -- n entries from entry k on, one by one
 unfoldable pub listed : ℕ → ℕ → List ℤ → List ℤ

@@ -1,21 +1,15 @@
 -- What equals itself is no NaN, and its pattern read back is itself; a NaN is written as its one pattern.
 use mathlib.Core.Path.{_≡_, refl, sym, _∙_}
-use mathlib.Core.Bool.{Bool, true, false, not, Bool·beq, true≢false}
+use mathlib.Core.Bool.{Bool, true, false, Bool·beq, true≢false}
 use Prim.Native.Nat.{_*_}
 use borrow.Author.Tests.{eq-eqb}
-use lib.Dec.{T}
-use lib.Ieee.{Float, nan, inf, fin, binary64, up, down, isNan, eq, toBits, ofBits}
+use lib.Ieee.{Float, nan, inf, fin, binary64, up, down, eq, toBits, ofBits}
 use lib.Ieee.Bits.{ofBits-toBits}
 use Rattle.phonon.specs.Number.{bits}
 use denote.Floats.{passes}
+use Rattle.phonon.proofs.Order.{no-nan}
 use Rattle.key_cases.proofs.bits_of.Statement.{statement}
 use Rattle.key_cases.proofs.bits_of.Tie as tie
-
-number : (x : Float) → eq x x ≡ true → T (not (isNan x))
-unfolding eq isNan
-number nan h = absurd (true≢false (sym h))
-number (inf s) h = tt
-number (fin s m e) h = tt
 
 beq-self : (s : Bool) → Bool·beq s s ≡ true
 beq-self true = refl
@@ -30,7 +24,7 @@ no-number (fin s m e) h =
     absurd (true≢false (sym (rw (eq-eqb n n refl, beq-self s) refl) ∙ h))
 
 float-to-bits-result : tie.Need-float-to-bits-result
-float-to-bits-result c = number (c .before .args .x) (c .if1 .taken)
+float-to-bits-result c = no-nan (c .before .args .x) (c .if1 .taken)
 
 returns : tie.Need-returns
 returns c = (refl, sym (ofBits-toBits binary64 (c .before .args .x) (passes _ (c .before .good .0 .1))))

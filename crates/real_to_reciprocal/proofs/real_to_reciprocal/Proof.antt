@@ -4,7 +4,8 @@ use mathlib.Core.Path.{_≡_, sym, _∙_}
 use Prim.Native.Nat.{ℕ, _+_, _*_, _-_, _≤_}
 use lib.ListN.{length-replicate}
 use Rattle.real_to_reciprocal.specs.Stored.{Box, Stored, factorsIn, componentAt}
-use Rattle.real_to_reciprocal.proofs.StoredLaws.{kept-then, stored-none}
+use Rattle.planes.proofs.RegionLaws.{kept-then}
+use Rattle.real_to_reciprocal.proofs.StoredLaws.{stored-none}
 use Rattle.real_to_reciprocal.proofs.FactorLaws.{Below}
 use Rattle.real_to_reciprocal.proofs.ReciprocalLaws.{turn-k, turn-j, turn-i, all-stored}
 use native.Mathlib.Omega.{arith}

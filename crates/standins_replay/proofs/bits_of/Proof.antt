@@ -1,20 +1,11 @@
 -- `standins_replay::bits_of` is safe: what equals itself is no NaN. Assumes nothing.
-use mathlib.Core.Path.{_≡_, sym}
-use mathlib.Core.Bool.{true, not, true≢false}
 use borrow.Author.Needs.{needs}
-use lib.Dec.{T}
-use lib.Ieee.{Float, nan, inf, fin, isNan, eq}
+use Rattle.phonon.proofs.Order.{no-nan}
 use Rattle.standins_replay.proofs.bits_of.Statement.{statement}
 use Rattle.standins_replay.proofs.bits_of.Tie as tie
 
-number : (x : Float) → eq x x ≡ true → T (not (isNan x))
-unfolding eq isNan
-number nan h = absurd (true≢false (sym h))
-number (inf s) h = tt
-number (fin s m e) h = tt
-
 float-to-bits-result : tie.Need-float-to-bits-result
-float-to-bits-result c = number (c .before .args .x) (c .if1 .taken)
+float-to-bits-result c = no-nan (c .before .args .x) (c .if1 .taken)
 
 returns : tie.Need-returns
 returns c = search needs

@@ -1,18 +1,13 @@
 -- `standins_replay::float_of` meets its contract: its test is the one for a NaN's bits. Assumes nothing.
-use mathlib.Core.Path.{_≡_, refl, sym, subst, _∙_}
-use mathlib.Core.Bool.{Bool, true, not, true≢false}
+use mathlib.Core.Path.{sym, subst, _∙_}
+use mathlib.Core.Bool.{Bool, not}
 use borrow.Author.Needs.{needs}
 use lib.Dec.{T}
-use lib.Ieee.{Float, nan, inf, fin, binary64, isNan, div, ofBits, nanBits}
+use lib.Ieee.{binary64, div, ofBits, nanBits}
 use lib.Ieee.Bits.{nanBits-is}
+use Rattle.phonon.proofs.Order.{is-nan}
 use Rattle.standins_replay.proofs.float_of.Statement.{statement}
 use Rattle.standins_replay.proofs.float_of.Tie as tie
-
-is-nan : (x : Float) → isNan x ≡ true → nan ≡ x
-unfolding isNan
-is-nan nan h = refl
-is-nan (inf s) h = absurd (true≢false (sym h))
-is-nan (fin s m e) h = absurd (true≢false (sym h))
 
 returns : tie.Need-returns
 unfolding div ofBits nanBits

@@ -1,6 +1,7 @@
 -- The entries, one by one.
 use borrow.Author.Needs.{needs}
-use Rattle.wirambolo_c.proofs.Laws.{read, listed, spelt}
+use Rattle.planes.proofs.SignedRead.{read}
+use Rattle.wirambolo_c.proofs.Laws.{listed, spelt}
 use Rattle.wirambolo_c.proofs.three.Statement.{statement}
 use Rattle.wirambolo_c.proofs.three.Tie as tie
 

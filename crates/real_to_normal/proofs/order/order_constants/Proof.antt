@@ -1,11 +1,12 @@
 -- The legs picked in this order hand their factors and pre-factors to the blocks.
 use Rattle.planes.proofs.RegionLaws.{kept-wider}
+use Rattle.planes.proofs.Products.{row-le}
 use Rattle.real_to_normal.specs.Work.{constantsAt, scratchAt}
 use Prim.Native.Nat.{ℕ, _*_}
 use mathlib.Core.List.{List}
 use lib.Ieee.{Float}
 use Rattle.phonon.specs.Sets.{Legs, Forces}
-use Rattle.real_to_normal.proofs.OrderLaws.{leg-room, order-is, order-kept}
+use Rattle.real_to_normal.proofs.OrderLaws.{order-is, order-kept}
 use native.Mathlib.Omega.{arith}
 use borrow.Author.Needs.{needs}
 use Rattle.real_to_normal.proofs.order.order_constants.Statement.{statement}
@@ -79,9 +80,9 @@ real-to-reciprocal-requires c κs =
     let g2 = legs .leg-at3 .ensures in
     let g1 = legs .before .leg-at2 .ensures in
     let g0 = legs .before .before .leg-at .ensures in
-    let r0 = leg-room (start .args .x0) n (p .0 .2) in
-    let r1 = leg-room (start .args .x1) n (p .0 .3) in
-    let r2 = leg-room (start .args .x2) n (p .0 .4) in
+    let r0 = row-le n (p .0 .2) in
+    let r1 = row-le n (p .0 .3) in
+    let r2 = row-le n (p .0 .4) in
     (p .0 .0, p .0 .1, p .0 .7, omega arith, omega (arith, g0, r0), omega (arith, g1, r1), omega (arith, g2, r2), omega (arith, size, p .0 .5))
 
 same-length : tie.Need-same-length

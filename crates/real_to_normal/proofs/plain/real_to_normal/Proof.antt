@@ -1,8 +1,8 @@
 -- The order 0, 1, 2, and the slots from the columns that were prepared.
-use Prim.Native.Nat.{ℕ, _*_}
+use Prim.Native.Nat.{ℕ}
 use Rattle.phonon.specs.Sets.{Legs}
 use Rattle.planes.proofs.RegionLaws.{kept-then, kept-wider}
-use Rattle.real_to_normal.proofs.SlotLaws.{stretch-length, plain-is}
+use Rattle.real_to_normal.proofs.SlotLaws.{plain-is}
 use native.Mathlib.Omega.{arith}
 use borrow.Author.Needs.{needs}
 use Rattle.real_to_normal.proofs.plain.real_to_normal.Statement.{statement}
@@ -95,7 +95,7 @@ reciprocal-to-normal-squared-requires c κs =
     let e2 = legs .leg-at3 .ensures in
     let e1 = legs .before .leg-at2 .ensures in
     let e0 = legs .before .before .leg-at .ensures in
-    ((p .0 .0, omega (arith, p .0 .1), p .1 .1 .3, p .1 .1 .4), ((stretch-length (a .frequencies .now) (a .g0) (3 * a .np) (p .1 .1 .0) (freq .before .before .leg-frequencies .ensures), stretch-length (a .frequencies .now) (a .g1) (3 * a .np) (p .1 .1 .1) (freq .before .leg-frequencies2 .ensures), stretch-length (a .frequencies .now) (a .g2) (3 * a .np) (p .1 .1 .2) (freq .leg-frequencies3 .ensures), p .1 .1 .5), (omega arith, omega (arith, e0), omega (arith, e1), omega (arith, e2), omega (arith, size, p .0 .3))))
+    ((p .0 .0, omega (arith, p .0 .1), p .1 .1 .3, p .1 .1 .4), ((omega (arith, freq .before .before .leg-frequencies .ensures .1), omega (arith, freq .before .leg-frequencies2 .ensures .1), omega (arith, freq .leg-frequencies3 .ensures .1), p .1 .1 .5), (omega arith, omega (arith, e0), omega (arith, e1), omega (arith, e2), omega (arith, size, p .0 .3))))
 
 same-length : tie.Need-same-length
 same-length c = search needs
@@ -116,7 +116,7 @@ returns c =
     let o = order .order-constants .ensures in
     let r = done .reciprocal-to-normal-squared .ensures in (
       plain-is (a .np) (a .ns) (a .frequencies .now) g (o .1) (omega arith) (a .bands .now) (a .flags .now) (a .out .now) _ (a .cutoff) _ (p .0 .0) (p .1 .1 .5) (o .0)
-          (legs .before .before .leg-at .ensures) (legs .before .leg-at2 .ensures) (legs .leg-at3 .ensures) (freq .before .before .leg-frequencies .ensures) (freq .before .leg-frequencies2 .ensures) (freq .leg-frequencies3 .ensures) (r .0),
+          (legs .before .before .leg-at .ensures) (legs .before .leg-at2 .ensures) (legs .leg-at3 .ensures) (freq .before .before .leg-frequencies .ensures .0) (freq .before .leg-frequencies2 .ensures .0) (freq .leg-frequencies3 .ensures .0) (r .0),
       kept-then (kept-wider _ _ (omega arith) (omega arith) (o .1)) (kept-wider _ _ (omega arith) (omega arith) (r .1)),
     )
 

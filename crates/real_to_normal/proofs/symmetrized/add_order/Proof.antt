@@ -2,8 +2,9 @@
 use Prim.Native.Nat.{ℕ, _*_}
 use Rattle.phonon.specs.Sets.{Legs}
 use Rattle.planes.proofs.RegionLaws.{kept-then, kept-wider}
-use Rattle.real_to_normal.proofs.OrderLaws.{leg-room}
-use Rattle.real_to_normal.proofs.SlotLaws.{order-gathered, above-kept}
+use Rattle.planes.proofs.Products.{row-le}
+use Rattle.reciprocal_to_normal.proofs.ListingLaws.{kept-above}
+use Rattle.real_to_normal.proofs.SlotLaws.{order-gathered}
 use native.Mathlib.Omega.{arith}
 use borrow.Author.Needs.{needs}
 use Rattle.real_to_normal.proofs.symmetrized.add_order.Statement.{statement}
@@ -119,8 +120,8 @@ full-strengths-requires c κs =
     let e0 = legs .before .before .leg-at .ensures in
     let e1 = legs .before .leg-at2 .ensures in
     let e2 = legs .leg-at3 .ensures in (
-      (p .0 .0, omega (arith, p .0 .1), freq .before .before .frequencies-of .ensures .1, freq .before .frequencies-of2 .ensures .1, freq .frequencies-of3 .ensures .1),
-      (omega arith, omega (arith, e0, leg-room _ d (p .1 .1 .6)), omega (arith, e1, leg-room _ d (p .1 .1 .7)), omega (arith, e2, leg-room _ d (p .1 .1 .8)), omega arith, omega (arith, size, p .0 .3)),
+      (p .0 .0, omega (arith, p .0 .1), omega (arith, freq .before .before .frequencies-of .ensures .1), omega (arith, freq .before .frequencies-of2 .ensures .1), omega (arith, freq .frequencies-of3 .ensures .1)),
+      (omega arith, omega (arith, e0, row-le d (p .1 .1 .6)), omega (arith, e1, row-le d (p .1 .1 .7)), omega (arith, e2, row-le d (p .1 .1 .8)), omega arith, omega (arith, size, p .0 .3)),
     )
 
 gather-sixth-requires : tie.Need-gather-sixth-requires
@@ -152,7 +153,7 @@ returns c =
     let f = full .full-strengths .ensures in (
       order-gathered (a .np) (a .ns) (a .frequencies .now) g (o .1) (omega arith) (a .t4) (a .bands .now) (a .flags .now) (a .out .now) _ (a .cutoff) _ _ _ (p .0 .0) (p .1 .1 .5) (o .0) (p .1 .1 .6) (p .1 .1 .7) (p .1 .1 .8)
           (legs .before .before .leg-at .ensures) (legs .before .leg-at2 .ensures) (legs .leg-at3 .ensures) (freq .before .before .frequencies-of .ensures .0) (freq .before .frequencies-of2 .ensures .0) (freq .frequencies-of3 .ensures .0) f (done .gather-sixth .ensures),
-      kept-then (kept-wider _ _ (omega arith) (omega arith) (o .1)) (above-kept _ _ (omega arith) (omega arith) (omega arith) f),
+      kept-then (kept-wider _ _ (omega arith) (omega arith) (o .1)) (kept-wider _ _ (omega arith) (omega arith) (kept-above f)),
     )
 
 pub add-order-spec : {M : Type 1} → statement M

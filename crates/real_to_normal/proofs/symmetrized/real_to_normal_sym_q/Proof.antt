@@ -2,7 +2,7 @@
 use Rattle.phonon.proofs.Laws.{table-length}
 use Rattle.planes.proofs.RegionLaws.{kept-none, kept-then}
 use Rattle.planes.proofs.WorkLaws.{numbers-below}
-use Rattle.real_to_normal.proofs.OrderLaws.{leg-room}
+use Rattle.planes.proofs.Products.{row-le}
 use Rattle.real_to_normal.proofs.SixLaws.{orders-lt, six-turn, six-none}
 use mathlib.Core.Path.{_≡_, sym, ap, _∙_, subst}
 use mathlib.Core.Bool.{cond}
@@ -55,7 +55,7 @@ add-order-requires c κs =
     let size : length (loop .out) ≡ length (a .bands .now) * (3 * a .np) * (3 * a .np) = ap length (loop .inv .1) ∙ table-length _ _ in (
       (p .0 .0, p .0 .1, p .0 .2, omega (arith, loop .inv .2 .size, p .0 .3), p .0 .4, p .0 .5),
       (
-        (λ x h. numbers-below (loop .inv .2) _ _ _ (omega (arith, leg-room x (2 * (a .np * a .ns)) h)) ∙ p .1 .0 x h),
+        (λ x h. numbers-below (loop .inv .2) _ _ _ (omega (arith, row-le (2 * (a .np * a .ns)) h)) ∙ p .1 .0 x h),
         (p .1 .1 .0, p .1 .1 .1, p .1 .1 .2, size, p .1 .1 .4, p .1 .1 .5, subst (λ d. getD d 0 0 < 3) (sym e) (i .0), subst (λ d. getD d 1 0 < 3) (sym e) (i .1), subst (λ d. getD d 2 0 < 3) (sym e) (i .2)),
       ),
     )

@@ -3,7 +3,7 @@ use mathlib.Core.Path.{_≡_, refl, ap, _∙_}
 use Prim.Native.Nat.{_+_, _*_, _-_, _≤_}
 use Rattle.planes.specs.Split.{split, WroteSplit}
 use Rattle.planes.proofs.SplitLaws.{split-none, split-next}
-use Rattle.planes.proofs.SplitJoin.{split-join}
+use Rattle.planes.proofs.RegionLaws.{split-join}
 use Rattle.real_to_reciprocal.proofs.BlockLaws.{meanAt, mean-of}
 use native.Mathlib.Omega.{arith}
 use Rattle.real_to_reciprocal.proofs.blocks.average.Statement.{statement}

@@ -3,7 +3,7 @@ use mathlib.Core.Path.{refl}
 use Prim.Native.Nat.{_+_, _*_}
 use native.Mathlib.Omega.{arith}
 use Rattle.phonon.specs.Sets.{Grid}
-use Rattle.real_to_reciprocal.proofs.SignedRead.{read}
+use Rattle.planes.proofs.SignedRead.{read}
 use Rattle.real_to_reciprocal.proofs.QLaws.{over-of, entry-of, three-of}
 use borrow.Author.Needs.{needs}
 use Rattle.real_to_reciprocal.proofs.phases.compute_q_vec.Statement.{statement}

@@ -5,7 +5,7 @@ use native.Mathlib.Nat.{zero-mul}
 use Rattle.phonon.specs.RealToReciprocal.{phaseFactorEntry}
 use Rattle.planes.specs.Split.{WroteSplit}
 use Rattle.planes.proofs.SplitLaws.{split-none}
-use Rattle.planes.proofs.SplitJoin.{split-join}
+use Rattle.planes.proofs.RegionLaws.{split-join}
 use Rattle.planes.proofs.Products.{row-le, row-next}
 use Rattle.real_to_reciprocal.proofs.PhaseLaws.{row-entry}
 use native.Mathlib.Omega.{arith}

@@ -4,9 +4,10 @@ use Prim.Native.Nat.{_+_, _*_, _-_, _/_, _%_, _<_, _≤_}
 use Rattle.phonon.specs.Number.{fold}
 use Rattle.planes.specs.Split.{Cols, column, strided}
 use Rattle.planes.proofs.SplitLaws.{split-at}
+use Rattle.planes.proofs.ColsLaws.{cols-step, cols-ext}
+use Rattle.planes.proofs.Products.{row-le}
 use Rattle.reciprocal_to_normal.proofs.DotLaws.{restTo, turn, dot-done}
-use Rattle.reciprocal_to_normal.proofs.ColumnLaws.{cols-step, cols-ext, lanes-join}
-use Rattle.reciprocal_to_normal.proofs.ContractLaws.{row-le}
+use Rattle.reciprocal_to_normal.proofs.ColumnLaws.{lanes-join}
 use native.Mathlib.Omega.{arith}
 use Rattle.reciprocal_to_normal.proofs.columns.dot_columns.Statement.{statement}
 use Rattle.reciprocal_to_normal.proofs.columns.dot_columns.Tie as tie

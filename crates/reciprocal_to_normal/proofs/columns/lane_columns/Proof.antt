@@ -5,9 +5,9 @@ use Rattle.phonon.specs.Number.{at, fold}
 use Rattle.phonon.specs.Common.{czero}
 use Rattle.planes.specs.Split.{Cols, column, strided}
 use Rattle.planes.proofs.SplitLaws.{split-at}
+use Rattle.planes.proofs.ColsLaws.{cols-zero, cols-step, cols-ext}
+use Rattle.planes.proofs.Products.{row-le}
 use Rattle.reciprocal_to_normal.proofs.DotLaws.{laneTo, turn, lane-done}
-use Rattle.reciprocal_to_normal.proofs.ColumnLaws.{cols-zero, cols-step, cols-ext}
-use Rattle.reciprocal_to_normal.proofs.ContractLaws.{row-le}
 use native.Mathlib.Omega.{arith}
 use Rattle.reciprocal_to_normal.proofs.columns.lane_columns.Statement.{statement}
 use Rattle.reciprocal_to_normal.proofs.columns.lane_columns.Tie as tie

@@ -6,7 +6,8 @@ use native.Mathlib.Nat.{mul-le-mul}
 use Rattle.planes.specs.Split.{split, WroteSplit, strided}
 use Rattle.reciprocal_to_normal.specs.Arrays.{contracted}
 use Rattle.planes.proofs.SplitLaws.{split-same, split-ext, split-over, split-below}
-use Rattle.reciprocal_to_normal.proofs.ContractLaws.{row-le, contracted-none, contracted-turn, contracted-ext}
+use Rattle.planes.proofs.Products.{row-le}
+use Rattle.reciprocal_to_normal.proofs.ContractLaws.{contracted-none, contracted-turn, contracted-ext}
 use Rattle.reciprocal_to_normal.proofs.contract.contract_fc3_e0.Statement.{statement}
 use Rattle.reciprocal_to_normal.proofs.contract.contract_fc3_e0.Tie as tie
 

@@ -5,8 +5,8 @@ use borrow.Author.Needs.{needs}
 use Rattle.phonon.specs.Number.{at, fold}
 use Rattle.phonon.specs.Common.{czero, cadd}
 use Rattle.planes.specs.Split.{split, strided}
+use Rattle.planes.proofs.Products.{row-le}
 use Rattle.reciprocal_to_normal.proofs.DotLaws.{term, laneTo, restTo, turn, lane-done, first-lane-done, dot-done}
-use Rattle.reciprocal_to_normal.proofs.ContractLaws.{row-le}
 use native.Mathlib.Omega.{arith}
 use Rattle.reciprocal_to_normal.proofs.dot.cmplx_dot_partial4.Statement.{statement}
 use Rattle.reciprocal_to_normal.proofs.dot.cmplx_dot_partial4.Tie as tie

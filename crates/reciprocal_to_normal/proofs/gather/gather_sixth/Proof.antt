@@ -3,10 +3,11 @@ use mathlib.Core.Path.{_≡_, ap, _∙_}
 use Prim.Native.Nat.{_*_, _-_, _≤_}
 use lib.ListN.{length}
 use Rattle.phonon.specs.Number.{at, index, int, flagged}
+use Rattle.phonon.proofs.Accepted.{index-below}
 use Rattle.reciprocal_to_normal.specs.Slots.{Visited, bOf, jOf, kOf, InAll}
 use Rattle.reciprocal_to_normal.specs.Listing.{gathered}
 use Rattle.reciprocal_to_normal.proofs.SlotLaws.{visited-none, visited-ext, visited-table, all-step, b-lt}
-use Rattle.reciprocal_to_normal.proofs.FlagLaws.{band-lt, plane-le}
+use Rattle.reciprocal_to_normal.proofs.FlagLaws.{plane-le}
 use Rattle.reciprocal_to_normal.proofs.GatherLaws.{band-gathered}
 use native.Mathlib.Omega.{arith}
 use Rattle.reciprocal_to_normal.proofs.gather.gather_sixth.Statement.{statement}
@@ -25,14 +26,14 @@ mul-nb c = omega arith
 loop-holds : tie.Need-loop-holds Inv-loop μ-loop
 loop-holds c = (omega arith, visited-none _ _ _ _ _ (λ m q d. omega (arith, d)))
 
-band-at-requires : tie.Need-band-at-requires Inv-loop μ-loop
-band-at-requires c κs = omega arith
+index-at-requires : tie.Need-index-at-requires Inv-loop μ-loop
+index-at-requires c κs = omega arith
 
 gather-plane-requires : tie.Need-gather-plane-requires Inv-loop μ-loop
 gather-plane-requires c κs = let s = c .before .before .before .before .before .before .before in
     let a = s .args in
-    let h = band-lt (3 * a .np) (a .bands .now) (c .before .before .before .loop .b) (omega (arith, s .pre .0 .0)) (s .pre .1 .0) (c .before .before .loop-test .taken) in
-    omega (arith, h, c .before .band-at .ensures, plane-le (3 * a .np) (c .before .before .loop-test .taken), s .pre .0, s .pre .1 .1, s .pre .1 .2, s .pre .1 .3, c .before .before .before .loop .inv .1 .size)
+    let h = index-below (3 * a .np) (a .bands .now) (omega (arith, s .pre .0 .0)) (s .pre .1 .0) (c .before .before .before .loop .b) (c .before .before .loop-test .taken) in
+    omega (arith, h, c .before .index-at .ensures, plane-le (3 * a .np) (c .before .before .loop-test .taken), s .pre .0, s .pre .1 .1, s .pre .1 .2, s .pre .1 .3, c .before .before .before .loop .inv .1 .size)
 
 add-b : tie.Need-add-b Inv-loop μ-loop
 add-b c = omega (arith, c .before .before .before .before .before .loop-test .taken, c .before .before .before .before .before .before .loop .inv .0, c .before .before .before .before .before .before .before .before .before .before .good)
@@ -45,13 +46,13 @@ loop-again c = let s = c .before .before .before .before .before .before .before
     let a = s .args in
     let inv = c .before .before .before .before .before .before .loop .inv .1 in
     let b = c .before .before .before .before .before .before .loop .b in
-    let n = c .before .before .before .before .band-at .result in
+    let n = c .before .before .before .before .index-at .result in
     let pb = c .before .before .before .before .before .loop-test .taken in (
       omega (arith, pb),
       all-step _ _ _ (3 * a .np) b (omega (arith, s .pre .0 .0)) inv
           (visited-ext (rw (inv .size) at (c .before .before .gather-plane .ensures))
           (λ m q d. ap (λ o. gathered (a .w .now) (a .to) (3 * a .np) (a .order) (λ i. n) o m) (inv .rest m q (λ e. omega (arith, e, d .0)))
-          ∙ band-gathered (a .w .now) (a .to) (3 * a .np) (a .order) n b m (λ i. index (int (a .bands .now) i)) _ (c .before .before .before .before .band-at .ensures) (d .0))),
+          ∙ band-gathered (a .w .now) (a .to) (3 * a .np) (a .order) n b m (λ i. index (int (a .bands .now) i)) _ (c .before .before .before .before .index-at .ensures) (d .0))),
     )
 
 same-length : tie.Need-same-length Inv-loop μ-loop
@@ -73,7 +74,7 @@ gather-sixth-spec =
     μ-loop
     mul-nb
     loop-holds
-    band-at-requires
+    index-at-requires
     gather-plane-requires
     add-b
     loop-less

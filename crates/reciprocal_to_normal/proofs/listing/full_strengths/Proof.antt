@@ -4,9 +4,9 @@ use Prim.Native.Nat.{_+_, _*_, _-_, _<_, _≤_}
 use native.Mathlib.Nat.{mul-le-mul, add-mul, zero-mul}
 use Rattle.phonon.specs.Number.{at}
 use Rattle.planes.proofs.RegionLaws.{kept-split}
+use Rattle.planes.proofs.Products.{row-le}
 use Rattle.reciprocal_to_normal.specs.Slots.{bOf, jOf, kOf, slotStrength}
 use Rattle.reciprocal_to_normal.specs.Listing.{WroteAbove}
-use Rattle.reciprocal_to_normal.proofs.ContractLaws.{row-le}
 use Rattle.reciprocal_to_normal.proofs.AmplitudeLaws.{plane-is}
 use Rattle.reciprocal_to_normal.proofs.ListingLaws.{above-none, above-append, above-to, above-kept, above-wider, kept-above, plane-b, j-lt-of, k-lt-of, plane-at}
 use native.Mathlib.Omega.{arith}

@@ -6,9 +6,9 @@ use Rattle.phonon.specs.Number.{at}
 use Rattle.phonon.specs.ReciprocalToNormal.{strengthFrom}
 use Rattle.planes.specs.Split.{split}
 use Rattle.planes.proofs.RegionLaws.{split-kept}
+use Rattle.planes.proofs.Products.{row-le}
 use Rattle.reciprocal_to_normal.specs.Slots.{planeSlot}
 use Rattle.reciprocal_to_normal.specs.Listing.{WroteAbove}
-use Rattle.reciprocal_to_normal.proofs.ContractLaws.{row-le}
 use Rattle.reciprocal_to_normal.proofs.AmplitudeLaws.{amplitude-ext}
 use Rattle.reciprocal_to_normal.proofs.ListingLaws.{above-none, above-append, above-to, kept-above, row-is}
 use native.Mathlib.Omega.{arith}

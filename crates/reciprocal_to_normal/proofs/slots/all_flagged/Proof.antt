@@ -5,7 +5,9 @@ use Prim.Native.Nat.{_-_, _≤_}
 use Rattle.phonon.specs.Number.{flagged}
 use Rattle.phonon.specs.Sets.{slot}
 use Rattle.phonon.specs.Tests.{everyBelow}
-use Rattle.reciprocal_to_normal.proofs.FlagLaws.{not-true, not-false, every-none, every-more, every-fails, slot-lt, slot-sums}
+use Rattle.phonon.proofs.Accepted.{every-none, every-next, every-bad}
+use Rattle.reciprocal_to_normal.proofs.FlagLaws.{slot-lt, slot-sums}
+use borrow.Author.Tests.{not-true, not-false}
 use native.Mathlib.Omega.{arith}
 use Rattle.reciprocal_to_normal.proofs.slots.all_flagged.Statement.{statement}
 use Rattle.reciprocal_to_normal.proofs.slots.all_flagged.Tie as tie
@@ -51,7 +53,7 @@ is-flagged-requires c κs = let s = c .before .before .before in
 
 returns : tie.Need-returns Inv-loop μ-loop
 returns c = let a = c .before .before .before .before .before .args in
-    sym (every-fails (λ x. flagged (a .flags .now) (slot (a .nb) (a .b) x (a .k))) (c .before .before .before .loop .j) (a .nb) (c .before .before .loop-test .taken) (sym (c .before .is-flagged .ensures) ∙ not-true _ (c .if1 .taken)))
+    sym (every-bad (λ x. flagged (a .flags .now) (slot (a .nb) (a .b) x (a .k))) (a .nb) (c .before .before .before .loop .j) (c .before .before .loop-test .taken) (sym (c .before .is-flagged .ensures) ∙ not-true _ (c .if1 .taken)))
 
 add-j : tie.Need-add-j Inv-loop μ-loop
 add-j c = omega arith
@@ -61,7 +63,7 @@ loop-less c = omega arith
 
 loop-again : tie.Need-loop-again Inv-loop μ-loop
 loop-again c = let a = c .before .before .before .before .before .args in
-    (omega arith, every-more (λ x. flagged (a .flags .now) (slot (a .nb) (a .b) x (a .k))) (c .before .before .before .loop .j) (c .before .before .before .loop .inv .1) (sym (c .before .is-flagged .ensures) ∙ not-false _ (c .if1 .left)))
+    (omega arith, every-next (λ x. flagged (a .flags .now) (slot (a .nb) (a .b) x (a .k))) (c .before .before .before .loop .j) (c .before .before .before .loop .inv .1) (sym (c .before .is-flagged .ensures) ∙ not-false _ (c .if1 .left)))
 
 returns-2 : tie.Need-returns-2 Inv-loop μ-loop
 returns-2 c = let e : c .before .loop .j ≡ c .before .before .before .args .nb = omega arith in

@@ -4,11 +4,12 @@ use Prim.Native.Nat.{_+_, _*_, _-_, _<_, _≤_}
 use native.Mathlib.Nat.{mul-le-mul}
 use lib.ListN.{length}
 use Rattle.phonon.specs.Number.{at, flagged, index, int}
+use Rattle.phonon.proofs.Accepted.{index-below}
 use Rattle.planes.specs.Region.{Kept}
 use Rattle.planes.proofs.RegionLaws.{kept-none, kept-then, kept-split, kept-wider}
 use Rattle.reciprocal_to_normal.specs.Slots.{Visited, bOf, jOf, kOf, InAll, slotStrength}
 use Rattle.reciprocal_to_normal.proofs.SlotLaws.{visited-none, visited-ext, visited-table, all-step, j-lt, b-lt}
-use Rattle.reciprocal_to_normal.proofs.FlagLaws.{band-lt, plane-le}
+use Rattle.reciprocal_to_normal.proofs.FlagLaws.{plane-le}
 use Rattle.reciprocal_to_normal.proofs.AmplitudeLaws.{plane-is}
 use native.Mathlib.Omega.{arith}
 use Rattle.reciprocal_to_normal.proofs.slots.reciprocal_to_normal_squared.Statement.{
@@ -40,38 +41,38 @@ add-ro c = omega arith
 loop-holds : tie.Need-loop-holds Inv-loop μ-loop
 loop-holds c = (omega arith, visited-none _ _ _ _ _ (λ n q d. omega (arith, d)), kept-none _ _ _)
 
-band-at-requires : tie.Need-band-at-requires Inv-loop μ-loop
-band-at-requires c κs = omega arith
+index-at-requires : tie.Need-index-at-requires Inv-loop μ-loop
+index-at-requires c κs = omega arith
 
 mul-x : tie.Need-mul-x Inv-loop μ-loop
 mul-x c = let s = c .before .before .before .before .before .before .before .before .before in
     let a = s .args in
-    let h = band-lt (3 * a .np) (a .bands .now) (c .before .before .loop .b) (omega (arith, s .pre .0 .0)) (s .pre .1 .0 .3) (c .before .loop-test .taken) in
-    omega (arith, h, c .band-at .ensures, plane-le (3 * a .np) (c .before .loop-test .taken), s .pre .0, s .pre .1 .0 .0, s .pre .1 .0 .1, s .pre .1 .0 .2, s .pre .1 .1, c .before .before .loop .inv .1 .size, c .before .before .loop .inv .2 .size)
+    let h = index-below (3 * a .np) (a .bands .now) (omega (arith, s .pre .0 .0)) (s .pre .1 .0 .3) (c .before .before .loop .b) (c .before .loop-test .taken) in
+    omega (arith, h, c .index-at .ensures, plane-le (3 * a .np) (c .before .loop-test .taken), s .pre .0, s .pre .1 .0 .0, s .pre .1 .0 .1, s .pre .1 .0 .2, s .pre .1 .1, c .before .before .loop .inv .1 .size, c .before .before .loop .inv .2 .size)
 
 shared-slice-read-x : tie.Need-shared-slice-read-x Inv-loop μ-loop
 shared-slice-read-x c = let s = c .before .before .before .before .before .before .before .before .before .before in
     let a = s .args in
-    let h = band-lt (3 * a .np) (a .bands .now) (c .before .before .before .loop .b) (omega (arith, s .pre .0 .0)) (s .pre .1 .0 .3) (c .before .before .loop-test .taken) in
-    omega (arith, h, c .before .band-at .ensures, plane-le (3 * a .np) (c .before .before .loop-test .taken), s .pre .0, s .pre .1 .0 .0, s .pre .1 .0 .1, s .pre .1 .0 .2, s .pre .1 .1, c .before .before .before .loop .inv .1 .size, c .before .before .before .loop .inv .2 .size)
+    let h = index-below (3 * a .np) (a .bands .now) (omega (arith, s .pre .0 .0)) (s .pre .1 .0 .3) (c .before .before .before .loop .b) (c .before .before .loop-test .taken) in
+    omega (arith, h, c .before .index-at .ensures, plane-le (3 * a .np) (c .before .before .loop-test .taken), s .pre .0, s .pre .1 .0 .0, s .pre .1 .0 .1, s .pre .1 .0 .2, s .pre .1 .1, c .before .before .before .loop .inv .1 .size, c .before .before .before .loop .inv .2 .size)
 
 add-contract-fc3-e0 : tie.Need-add-contract-fc3-e0 Inv-loop μ-loop
 add-contract-fc3-e0 c = let s = c .before .before .before .before .before .before .before .before .before .before .before in
     let a = s .args in
-    let h = band-lt (3 * a .np) (a .bands .now) (c .before .before .before .before .loop .b) (omega (arith, s .pre .0 .0)) (s .pre .1 .0 .3) (c .before .before .before .loop-test .taken) in
-    omega (arith, h, c .before .before .band-at .ensures, plane-le (3 * a .np) (c .before .before .before .loop-test .taken), s .pre .0, s .pre .1 .0 .0, s .pre .1 .0 .1, s .pre .1 .0 .2, s .pre .1 .1, c .before .before .before .before .loop .inv .1 .size, c .before .before .before .before .loop .inv .2 .size)
+    let h = index-below (3 * a .np) (a .bands .now) (omega (arith, s .pre .0 .0)) (s .pre .1 .0 .3) (c .before .before .before .before .loop .b) (c .before .before .before .loop-test .taken) in
+    omega (arith, h, c .before .before .index-at .ensures, plane-le (3 * a .np) (c .before .before .before .loop-test .taken), s .pre .0, s .pre .1 .0 .0, s .pre .1 .0 .1, s .pre .1 .0 .2, s .pre .1 .1, c .before .before .before .before .loop .inv .1 .size, c .before .before .before .before .loop .inv .2 .size)
 
 contract-fc3-e0-requires : tie.Need-contract-fc3-e0-requires Inv-loop μ-loop
 contract-fc3-e0-requires c κs = let s = c .before .before .before .before .before .before .before .before .before .before .before in
     let a = s .args in
-    let h = band-lt (3 * a .np) (a .bands .now) (c .before .before .before .before .loop .b) (omega (arith, s .pre .0 .0)) (s .pre .1 .0 .3) (c .before .before .before .loop-test .taken) in
-    omega (arith, h, c .before .before .band-at .ensures, plane-le (3 * a .np) (c .before .before .before .loop-test .taken), s .pre .0, s .pre .1 .0 .0, s .pre .1 .0 .1, s .pre .1 .0 .2, s .pre .1 .1, c .before .before .before .before .loop .inv .1 .size, c .before .before .before .before .loop .inv .2 .size)
+    let h = index-below (3 * a .np) (a .bands .now) (omega (arith, s .pre .0 .0)) (s .pre .1 .0 .3) (c .before .before .before .before .loop .b) (c .before .before .before .loop-test .taken) in
+    omega (arith, h, c .before .before .index-at .ensures, plane-le (3 * a .np) (c .before .before .before .loop-test .taken), s .pre .0, s .pre .1 .0 .0, s .pre .1 .0 .1, s .pre .1 .0 .2, s .pre .1 .1, c .before .before .before .before .loop .inv .1 .size, c .before .before .before .before .loop .inv .2 .size)
 
 fill-plane-requires : tie.Need-fill-plane-requires Inv-loop μ-loop
 fill-plane-requires c κs = let s = c .before .before .before .before .before .before .before .before .before .before .before .before .before .before .before .before in
     let a = s .args in
-    let h = band-lt (3 * a .np) (a .bands .now) (c .before .before .before .before .before .before .before .before .before .loop .b) (omega (arith, s .pre .0 .0)) (s .pre .1 .0 .3) (c .before .before .before .before .before .before .before .before .loop-test .taken) in
-    omega (arith, h, c .before .before .before .before .before .before .before .band-at .ensures, plane-le (3 * a .np) (c .before .before .before .before .before .before .before .before .loop-test .taken), s .pre .0, s .pre .1 .0 .0, s .pre .1 .0 .1, s .pre .1 .0 .2, s .pre .1 .1, c .before .before .before .before .before .before .before .before .before .loop .inv .1 .size, c .before .before .before .before .before .before .before .before .before .loop .inv .2 .size, c .before .before .before .before .contract-fc3-e0 .ensures .size)
+    let h = index-below (3 * a .np) (a .bands .now) (omega (arith, s .pre .0 .0)) (s .pre .1 .0 .3) (c .before .before .before .before .before .before .before .before .before .loop .b) (c .before .before .before .before .before .before .before .before .loop-test .taken) in
+    omega (arith, h, c .before .before .before .before .before .before .before .index-at .ensures, plane-le (3 * a .np) (c .before .before .before .before .before .before .before .before .loop-test .taken), s .pre .0, s .pre .1 .0 .0, s .pre .1 .0 .1, s .pre .1 .0 .2, s .pre .1 .1, c .before .before .before .before .before .before .before .before .before .loop .inv .1 .size, c .before .before .before .before .before .before .before .before .before .loop .inv .2 .size, c .before .before .before .before .contract-fc3-e0 .ensures .size)
 
 add-b : tie.Need-add-b Inv-loop μ-loop
 add-b c = omega (arith, c .before .before .before .before .before .before .before .before .before .before .before .before .before .loop-test .taken, c .before .before .before .before .before .before .before .before .before .before .before .before .before .before .loop .inv .0, c .before .before .before .before .before .before .before .before .before .before .before .before .before .before .before .before .before .before .before .before .before .good)
@@ -86,9 +87,9 @@ loop-again c = let s = c .before .before .before .before .before .before .before
     let b = c .before .before .before .before .before .before .before .before .before .before .before .before .before .before .loop .b in
     let pb = c .before .before .before .before .before .before .before .before .before .before .before .before .before .loop-test .taken in
     let some : 0 < (3 * a .np) = omega (arith, s .pre .0 .0) in
-    let n = c .before .before .before .before .before .before .before .before .before .before .before .before .band-at .result in
-    let en = c .before .before .before .before .before .before .before .before .before .before .before .before .band-at .ensures in
-    let pn : n < (3 * a .np) = omega (arith, en, band-lt (3 * a .np) (a .bands .now) b some (s .pre .1 .0 .3) pb) in
+    let n = c .before .before .before .before .before .before .before .before .before .before .before .before .index-at .result in
+    let en = c .before .before .before .before .before .before .before .before .before .before .before .before .index-at .ensures in
+    let pn : n < (3 * a .np) = omega (arith, en, index-below (3 * a .np) (a .bands .now) some (s .pre .1 .0 .3) b pb) in
     let room = s .pre .1 .1 in
     let w = c .before .before .before .before .before .before .before .before .before .contract-fc3-e0 .ensures in
     let f = c .before .before .before .before .fill-plane .ensures in
@@ -127,7 +128,7 @@ reciprocal-to-normal-squared-spec =
     mul-ro-2
     add-ro
     loop-holds
-    band-at-requires
+    index-at-requires
     mul-x
     shared-slice-read-x
     add-contract-fc3-e0

@@ -14,4 +14,4 @@ read h = toZ-ofZ w64 _ (sfits-of h)
 
 -- the same, as an index
 pub read-index : (z : ℤ) {n : ℕ} → n ≡ index (toZ w64 (ofZ w64 z)) → mag z < 2 ^ hbits w64 → n ≡ index z
-read-index z e h = e ∙ ap index (toZ-ofZ w64 z (sfits-of h))
+read-index z e h = e ∙ ap index (read {z = z} h)
