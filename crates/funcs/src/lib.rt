@@ -45,19 +45,6 @@ const LN_2_HIGH: f64 = 0.6931471803691238;
 // 3DEA39EF35793C76
 const LN_2_LOW: f64 = 1.9082149292705877e-10;
 
-// p = 1, then p = 1 + p * (r / n) for n = 18 down to 1.
-fn exp_series(r: f64) -> f64
-    ensures { λ p. ⌜ p ≡ Exp.expSeries r ⌝ }
-{
-    let mut p = 1.0;
-    let mut i = 0usize;
-    while i < 18 {
-        p = 1.0 + p * (r / EXP_DIVISORS[i]);
-        i += 1;
-    }
-    p
-}
-
 // 2 ^ k, by its bit pattern.
 fn power_of_two(k: u64) -> f64
     requires { ⌜ k ≤ 1023 ⌝ }
@@ -91,28 +78,14 @@ fn reduce(x: f64) -> Reduced
     }
 }
 
-// The exponential of x. Above 709 it is infinity; below 0, and of a NaN, it is a NaN.
-pub fn exp(x: f64) -> f64
-    ensures { λ r. ⌜ r ≡ Exp.exp x ⌝ }
-{
-    if is_reducible(x) {
-        let a = reduce(x);
-        return exp_series(a.remainder) * a.power;
-    }
-    if x > 709.0 {
-        return 1.0 / 0.0;
-    }
-    0.0 / 0.0
-}
-
-// ---- two exponentials side by side, whose divisions then share their instructions
-
+// Two numbers side by side.
 pub struct Two {
     pub one: f64,
     pub two: f64,
 }
 
-// The divisors are lent: a constant array that is read in a loop is laid out anew in every turn.
+// Of r and of s: p = 1, then p = 1 + p * (r / n) for n = 18 down to 1. Both divisions are one instruction where this stands by itself, as a function
+// with several callers does. The divisors are lent: a constant array that is read in a loop is laid out anew in every turn.
 fn exp_series_two(r: f64, s: f64, divisors: &[f64; 18]) -> Two
     requires { ⌜ length (now divisors) ≡ 18 ⌝ }
     ensures { λ p. ⌜ (p .one ≡ foldl (λ p d. f1 ⊕ p ⊗ (r ⊘ d)) f1 (now (divisors .entry))) × (p .two ≡ foldl (λ p d. f1 ⊕ p ⊗ (s ⊘ d)) f1 (now (divisors .entry))) ⌝ }
@@ -129,6 +102,22 @@ fn exp_series_two(r: f64, s: f64, divisors: &[f64; 18]) -> Two
     Two { one: p, two: q }
 }
 
+// The exponential of x. Above 709 it is infinity; below 0, and of a NaN, it is a NaN.
+pub fn exp(x: f64) -> f64
+    ensures { λ r. ⌜ r ≡ Exp.exp x ⌝ }
+{
+    if is_reducible(x) {
+        let a = reduce(x);
+        let p = exp_series_two(a.remainder, a.remainder, &EXP_DIVISORS);
+        return p.one * a.power;
+    }
+    if x > 709.0 {
+        return 1.0 / 0.0;
+    }
+    0.0 / 0.0
+}
+
+// The exponentials of two numbers.
 pub fn exp_two(x: f64, y: f64) -> Two
     ensures { λ r. ⌜ (r .one ≡ Exp.exp x) × (r .two ≡ Exp.exp y) ⌝ }
 {

@@ -22,8 +22,8 @@ use Rattle.phonon.specs.ImagSelfEnergy.{totals, sumAlone}
 use Rattle.phonon.specs.Refusal.{Test, firstFailed, totalsMeasuresOk, totalsLengthsOk, pointsOk, totalsFinite, cutoffOk, bathOk, totalsRefusal}
 use Rattle.phonon.specs.Doors.{answerFor, TotalsOutcome, totalsLeaves, totalsOutcome}
 use Rattle.checks.proofs.Laws.{holds, measured-in, every-at, and-right}
-use Rattle.imag_self_energy.specs.declared.Checked.{Checked}
-use Rattle.imag_self_energy.specs.declared.Checked.the-variants.{Bands, Fails}
+use Rattle.imag_self_energy.specs.declared.check.Checked.{Checked}
+use Rattle.imag_self_energy.specs.declared.check.Checked.the-variants.{Bands, Fails}
 use Rattle.imag_self_energy.specs.Bands.{mostBands, Sized}
 use Rattle.imag_self_energy.specs.Check.{checkedFor, measuresChecked, lengthTests, answerOf}
 

@@ -8,7 +8,7 @@ use mathlib.Core.List.{List}
 use mathlib.Core.Logic.{_⊎_, ⊎-elim}
 use lib.Dec.{eqb}
 use lib.Ieee.{Float, nan, lt}
-use lib.ListN.{getD, length, set, length-set, length-take, length-drop}
+use lib.ListN.{getD, length, set, length-set}
 use lib.Seq.{getD-set-same, getD-set-other, getD-take, getD-drop, ext-getD}
 use Rattle.phonon.specs.declared.Band.{Band}
 use Rattle.phonon.specs.declared.Weights.{Weights}
@@ -74,9 +74,6 @@ held-step {t} {c} {f} {n} {l} x w h e =
           (λ (q : i < n). getD-set-other l n i x d (λ (z : i ≡ n). omega arith) ∙ w .held i q d)
           (eq-or-lt-of-le {n = i} {m = n} (omega arith));
     }
-
-pub part-length : {A : Type 0} (n g : ℕ) (l : List A) → g * n + n ≤ length l → length (part n g l) ≡ n
-part-length n g l h = simp (length-take, length-drop) (omega arith)
 
 -- the bands of grid point g's stretch are those of the slice, from g * n on
 pub held-part : {t c : Float} {n : ℕ} {l : List Band} (g : ℕ) (fr leg : List Float) → leg ≡ part n g fr → Held t c (at leg) n l → Held t c (λ i. at fr (g * n + i)) n l

@@ -11,10 +11,11 @@ use lib.Ieee.{Float, nan, lt}
 use lib.ListN.{getD, length, set, length-set}
 use lib.Seq.{getD-set-same, getD-set-other, getD-take, getD-drop}
 use Rattle.phonon.specs.declared.Band.{Band}
-use Rattle.phonon.specs.Number.{_⊕_, f0, at, fold}
+use Rattle.phonon.specs.declared.Weights.{Weights}
+use Rattle.phonon.specs.Number.{_⊕_, f0, at, fold, table}
 use Rattle.phonon.specs.Sets.{slot, part}
-use Rattle.phonon.specs.ImagSelfEnergy.{contribution}
-use Rattle.phonon.proofs.Laws.{fold-ext, fold-step, pair-lt}
+use Rattle.phonon.specs.ImagSelfEnergy.{block, contribution}
+use Rattle.phonon.proofs.Laws.{fold-ext, fold-step, table-ext, pair-lt}
 use Rattle.imag_self_energy.specs.declared.Shared.{Shared}
 use Rattle.imag_self_energy.specs.Bands.{mostBands, bandAt, addSlot, slotStep, columnSum, bandTotal}
 use Rattle.imag_self_energy.specs.Lists.{Listed, pairStep, pairColumn, pairWalk, unflaggedStep, unflaggedWalk, Factors, warmTerm, coldTerm, placeTerm, pairTotal}
@@ -170,12 +171,20 @@ module _ (h : Shared) (n c b : ℕ) (seconds thirds : List Band) (flags : List �
       (nested (eqb (getD flags (slot n c j k) 0) 0) (lt (h .cutoff) (bandAt seconds j .frequency)) (lt (h .cutoff) (bandAt thirds k .frequency)) s (term-is j k p q))
 
   -- the walk over the pairs is the total
-  pub pair-total : (pairs : List ℕ) (count : ℕ) → Listed (n * n) (pairWalk (h .cutoff) n seconds thirds) pairs count
+  pair-total : (pairs : List ℕ) (count : ℕ) → Listed (n * n) (pairWalk (h .cutoff) n seconds thirds) pairs count
       → pairTotal h (n * n) count pairs flags x y v sums differences c b ≡ bandTotal h n c b seconds thirds flags x y v
   unfolding pairTotal unflaggedWalk unflaggedStep pairWalk pairColumn bandTotal columnSum slotAt
   pair-total pairs count p = p .walked f0 slotAt ∙ fold-ext n f0 _ _ (λ k pk u. fold-ext n u _ _ (λ j pj s. step-is j k pj pk s))
 
--- and the sum over the unflagged of them is that walk, of the block that position b reads
+-- of every position, with the block that it reads
+pub pair-totals : (h : Shared) (w : Weights) (n F count : ℕ) (seconds thirds : List Band) (flags pairs : List ℕ) (x y v sums differences : List Float) {r : List Float}
+    → Factors n seconds thirds sums differences → Listed (n * n) (pairWalk (h .cutoff) n seconds thirds) pairs count
+    → r ≡ table F (λ b. pairTotal h (n * n) count pairs flags x y v sums differences (block w b) b)
+    → r ≡ table F (λ b. bandTotal h n (block w b) b seconds thirds flags x y v)
+pair-totals h w n F count seconds thirds flags pairs x y v sums differences f l e =
+    e ∙ table-ext F _ _ (λ b p. pair-total h n (block w b) b seconds thirds flags x y v sums differences f pairs count l)
+
+-- the sum over the unflagged of the pairs is the walk over them, of the block that position b reads
 pub total-listed : (h : Shared) (area count c d b : ℕ) (pairs flags list : List ℕ) (x y v sums differences : List Float) (m : ℕ) {r : Float} → c ≡ d
     → Listed area (unflaggedWalk area c flags pairs count) list m
     → r ≡ fold m f0 (λ i t. t ⊕ placeTerm h sums differences area c x y b v (getD list i 0))

@@ -9,8 +9,8 @@ use Rattle.phonon.specs.declared.Answer.{Answer}
 use Rattle.phonon.specs.declared.Answer.the-variants.{Accepted, Refused}
 use Rattle.phonon.specs.Limits.{entriesOf}
 use Rattle.phonon.specs.Refusal.{totalsMeasuresOk}
-use Rattle.imag_self_energy.specs.declared.Checked.{Checked}
-use Rattle.imag_self_energy.specs.declared.Checked.the-variants.{Bands, Fails}
+use Rattle.imag_self_energy.specs.declared.check.Checked.{Checked}
+use Rattle.imag_self_energy.specs.declared.check.Checked.the-variants.{Bands, Fails}
 
 -- of a set whose refusal is the second argument; 0 is none
 unfoldable pub checkedFor : ℕ → ℕ → Checked

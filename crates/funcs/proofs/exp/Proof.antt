@@ -3,10 +3,11 @@
 use mathlib.Core.Path.{_≡_, refl, sym, ap, _∙_}
 use mathlib.Core.Bool.{Bool, true, false}
 use borrow.Author.Needs.{needs}
-use lib.Ieee.{Float, ofBits, div, lt, le}
+use lib.Ieee.{Float, ofBits, ofInt, div, lt, le}
 use Rattle.phonon.specs.Number.{f0}
 use Rattle.phonon.specs.Exp.{exp, byRange}
 use Rattle.funcs.proofs.Range.{limit}
+use Rattle.funcs.proofs.Series.{exp-fold}
 use Rattle.funcs.proofs.Reducible.{exp-parts, below}
 use Rattle.funcs.proofs.exp.Statement.{statement}
 use Rattle.funcs.proofs.exp.Tie as tie
@@ -22,14 +23,16 @@ is-reducible-requires c κs = search needs
 reduce-requires : tie.Need-reduce-requires
 reduce-requires c κs = sym (c .before .is-reducible .ensures) ∙ c .if1 .taken
 
-exp-series-requires : tie.Need-exp-series-requires
-exp-series-requires c κs = search needs
+exp-series-two-requires : tie.Need-exp-series-two-requires
+exp-series-two-requires c κs = search needs
 
 returns : tie.Need-returns
+unfolding ofBits ofInt
 returns c =
-    let r = c .before .before .reduce .ensures in
-    let t = c .before .before .before in
-    exp-parts (t .before .before .args .x) _ _ (sym (t .before .is-reducible .ensures) ∙ t .if1 .taken) (c .before .exp-series .ensures ∙ rw (r .0) refl) (r .1)
+    let r = c .before .before .before .before .reduce .ensures in
+    let t = c .before .before .before .before .before in
+    let p = c .before .before .exp-series-two .ensures in
+    exp-parts (t .before .before .args .x) _ _ (sym (t .before .is-reducible .ensures) ∙ t .if1 .taken) (p .0 ∙ sym (exp-fold _) ∙ rw (r .0) refl) (r .1)
 
 returns-2 : tie.Need-returns-2
 unfolding byRange div ofBits
@@ -47,7 +50,7 @@ exp-spec =
     (tie.spec
     is-reducible-requires
     reduce-requires
-    exp-series-requires
+    exp-series-two-requires
     returns
     returns-2
     returns-3)

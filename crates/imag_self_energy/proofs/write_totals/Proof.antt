@@ -1,6 +1,6 @@
 -- After j turns the first j bands of both later legs are held; all held, and the weight cast once, the totals are the definition's.
 use Prim.Native.Nat.{_-_, _≤_, _<_}
-use mathlib.Core.Path.{_≡_, refl, ap, _∙_}
+use mathlib.Core.Path.{_≡_, refl, sym, ap, _∙_}
 use native.Mathlib.Omega.{arith}
 use borrow.Author.Needs.{needs, sfits-of}
 use lib.Ieee.{binary64, ofInt}
@@ -9,8 +9,9 @@ use mir.ValLaws.{toZ-ofZ}
 use mir.Syntax.{w64}
 use Rattle.phonon.specs.Number.{index, at, int, table}
 use Rattle.phonon.specs.ImagSelfEnergy.{Sum, block, totals}
+use Rattle.planes.proofs.Products.{row-next}
 use Rattle.imag_self_energy.specs.Bands.{mostBands, Held, bandTotal}
-use Rattle.imag_self_energy.proofs.Laws.{part-length, band-made, held-none, held-step, held-part, totals-are}
+use Rattle.imag_self_energy.proofs.Laws.{band-made, held-none, held-step, held-part, totals-are}
 use Rattle.imag_self_energy.proofs.write_totals.Statement.{statement}
 use Rattle.imag_self_energy.proofs.write_totals.Tie as tie
 
@@ -41,19 +42,22 @@ read s =
       second = s .args .second .now;
     }
 
+-- the function's entry, from the place where both points are known, from where both legs are, and from a turn's end
+abbrev entry : tie.After-index-of2 Inv-loop μ-loop → tie.Start Inv-loop μ-loop
+entry c = c .before .before .before .before .before .before .before .before .before .before
+
+abbrev legs-entry : tie.After-leg-frequencies2 Inv-loop μ-loop → tie.Start Inv-loop μ-loop
+legs-entry c = entry (c .before .before)
+
+abbrev turn-entry : tie.After-occupations Inv-loop μ-loop → tie.Start Inv-loop μ-loop
+turn-entry c = legs-entry (c .before .before .before .before .before)
+
 -- the grid points as numbers
-point1 : (c : tie.After-index-of2 Inv-loop μ-loop) → c .before .before .index-of .result ≡ index (int (c .before .before .before .before .before .before .before .before .before .before .args .t3) 1)
-point1 c = rw (toZ-ofZ w64 (int (c .before .before .before .before .before .before .before .before .before .before .args .t3) 1) (sfits-of (c .before .before .before .index-of-arg .given))) at (c .before .before .index-of .ensures)
+point1 : (c : tie.After-index-of2 Inv-loop μ-loop) → c .before .before .index-of .result ≡ index (int (entry c .args .t3) 1)
+point1 c = rw (toZ-ofZ w64 (int (entry c .args .t3) 1) (sfits-of (c .before .before .before .index-of-arg .given))) at (c .before .before .index-of .ensures)
 
-point2 : (c : tie.After-index-of2 Inv-loop μ-loop) → c .index-of2 .result ≡ index (int (c .before .before .before .before .before .before .before .before .before .before .args .t3) 2)
-point2 c = rw (toZ-ofZ w64 (int (c .before .before .before .before .before .before .before .before .before .before .args .t3) 2) (sfits-of (c .before .index-of-arg2 .given))) at (c .index-of2 .ensures)
-
--- both stretches are as long as there are bands
-long1 : (c : tie.After-leg-frequencies2 Inv-loop μ-loop) → length (c .before .leg-frequencies .result .now) ≡ c .before .before .before .before .before .before .before .before .before .before .before .before .args .bands
-long1 c = ap length (c .before .leg-frequencies .ensures) ∙ part-length _ _ _ (rw (point1 (c .before .before)) (c .before .before .before .before .before .before .before .before .before .before .before .before .pre .1))
-
-long2 : (c : tie.After-leg-frequencies2 Inv-loop μ-loop) → length (c .leg-frequencies2 .result .now) ≡ c .before .before .before .before .before .before .before .before .before .before .before .before .args .bands
-long2 c = ap length (c .leg-frequencies2 .ensures) ∙ part-length _ _ _ (rw (point2 (c .before .before)) (c .before .before .before .before .before .before .before .before .before .before .before .before .pre .2))
+point2 : (c : tie.After-index-of2 Inv-loop μ-loop) → c .index-of2 .result ≡ index (int (entry c .args .t3) 2)
+point2 c = rw (toZ-ofZ w64 (int (entry c .args .t3) 2) (sfits-of (c .before .index-of-arg2 .given))) at (c .index-of2 .ensures)
 
 array-copy-out-index-of : tie.Need-array-copy-out-index-of Inv-loop μ-loop
 array-copy-out-index-of c = omega arith
@@ -68,43 +72,45 @@ index-of-requires-2 : tie.Need-index-of-requires-2 Inv-loop μ-loop
 index-of-requires-2 c κs = search needs
 
 leg-frequencies-requires : tie.Need-leg-frequencies-requires Inv-loop μ-loop
-leg-frequencies-requires c κs = rw (point1 c) (c .before .before .before .before .before .before .before .before .before .before .pre .1)
+leg-frequencies-requires c κs = rw (point1 c, sym (row-next (index (int (entry c .args .t3) 1)) (entry c .args .bands))) (entry c .pre .1)
 
 leg-frequencies-requires-2 : tie.Need-leg-frequencies-requires-2 Inv-loop μ-loop
-leg-frequencies-requires-2 c κs = rw (point2 (c .before)) (c .before .before .before .before .before .before .before .before .before .before .before .pre .2)
+leg-frequencies-requires-2 c κs =
+    let s = entry (c .before) in
+    rw (point2 (c .before), sym (row-next (index (int (s .args .t3) 2)) (s .args .bands))) (s .pre .2)
 
 loop-holds : tie.Need-loop-holds Inv-loop μ-loop
 loop-holds c = (omega arith, refl, refl, held-none _ _ _ _, held-none _ _ _ _)
 
 mul-f : tie.Need-mul-f Inv-loop μ-loop
-mul-f c = omega (arith, c .before .before .before .before .before .before .before .before .before .before .before .before .before .before .pre .0 .few)
+mul-f c = omega (arith, legs-entry (c .before .before) .pre .0 .few)
 
 shared-slice-read-f : tie.Need-shared-slice-read-f Inv-loop μ-loop
-shared-slice-read-f c = omega (arith, long1 (c .before .before .before))
+shared-slice-read-f c = omega (arith, c .before .before .before .before .leg-frequencies .ensures .1)
 
 mul-g : tie.Need-mul-g Inv-loop μ-loop
-mul-g c = omega (arith, c .before .before .before .before .before .before .before .before .before .before .before .before .before .before .before .pre .0 .few)
+mul-g c = omega (arith, legs-entry (c .before .before .before) .pre .0 .few)
 
 shared-slice-read-g : tie.Need-shared-slice-read-g Inv-loop μ-loop
-shared-slice-read-g c = omega (arith, long2 (c .before .before .before .before))
+shared-slice-read-g c = omega (arith, c .before .before .before .before .leg-frequencies2 .ensures .1)
 
 occupations-requires : tie.Need-occupations-requires Inv-loop μ-loop
 occupations-requires c κs = search needs
 
 mul-seconds : tie.Need-mul-seconds Inv-loop μ-loop
-mul-seconds c = omega (arith, c .before .before .before .before .before .before .before .before .before .before .before .before .before .before .before .before .before .pre .0 .few)
+mul-seconds c = omega (arith, turn-entry c .pre .0 .few)
 
 array-set-from-seconds : tie.Need-array-set-from-seconds Inv-loop μ-loop
-array-set-from-seconds c = omega (arith, c .before .before .before .before .before .before .before .before .before .before .before .before .before .before .before .before .before .pre .0 .few)
+array-set-from-seconds c = omega (arith, turn-entry c .pre .0 .few)
 
 mul-thirds : tie.Need-mul-thirds Inv-loop μ-loop
-mul-thirds c = omega (arith, c .before .before .before .before .before .before .before .before .before .before .before .before .before .before .before .before .before .pre .0 .few)
+mul-thirds c = omega (arith, turn-entry c .pre .0 .few)
 
 array-set-from-thirds : tie.Need-array-set-from-thirds Inv-loop μ-loop
-array-set-from-thirds c = omega (arith, c .before .before .before .before .before .before .before .before .before .before .before .before .before .before .before .before .before .pre .0 .few)
+array-set-from-thirds c = omega (arith, turn-entry c .pre .0 .few)
 
 add-j : tie.Need-add-j Inv-loop μ-loop
-add-j c = omega (arith, c .before .before .before .before .before .before .before .before .before .before .before .before .before .before .before .before .before .pre .0 .few)
+add-j c = omega (arith, turn-entry c .pre .0 .few)
 
 loop-less : tie.Need-loop-less Inv-loop μ-loop
 loop-less c = omega arith
@@ -112,7 +118,7 @@ loop-less c = omega arith
 loop-again : tie.Need-loop-again Inv-loop μ-loop
 loop-again c =
     let l = c .before .before .before .before .loop in
-    let few = c .before .before .before .before .before .before .before .before .before .before .before .before .before .before .before .before .before .pre .0 .few in
+    let few = turn-entry c .pre .0 .few in
     let p : l .j < length (l .seconds) = omega arith in
     let q : l .j < length (l .thirds) = omega arith in
     let o = c .occupations .ensures in (
@@ -127,24 +133,28 @@ nearest-i64-to-f64-requires : tie.Need-nearest-i64-to-f64-requires Inv-loop μ-l
 nearest-i64-to-f64-requires c κs = search needs
 
 fill-plain-requires : tie.Need-fill-plain-requires Inv-loop μ-loop
-fill-plain-requires c κs = c .before .before .before .before .before .before .before .before .before .before .before .before .before .before .before .before .before .pre .0
+fill-plain-requires c κs = legs-entry (c .before .before .before .before .before) .pre .0
 
 fill-lists-requires : tie.Need-fill-lists-requires Inv-loop μ-loop
-fill-lists-requires c κs = c .before .before .before .before .before .before .before .before .before .before .before .before .before .before .before .before .before .pre .0
+fill-lists-requires c κs = legs-entry (c .before .before .before .before .before) .pre .0
 
 -- all bands are held, and the weight is cast: the sums are the definition's totals
-all-held : (c : tie.After-nearest-i64-to-f64 Inv-loop μ-loop)
-    → table (length (c .before .before .before .before .before .before .before .before .before .before .before .before .before .before .before .args .totals .now))
-    (λ b. bandTotal (record { temperature = c .before .before .before .before .before .before .before .before .before .before .before .before .before .before .before .args .temperature; cutoff = c .before .before .before .before .before .before .before .before .before .before .before .before .before .before .before .args .cutoff; weight = c .nearest-i64-to-f64 .result }) (c .before .before .before .before .before .before .before .before .before .before .before .before .before .before .before .args .bands) (block (c .before .before .before .before .before .before .before .before .before .before .before .before .before .before .before .args .weights) b) b (c .before .before .loop .seconds) (c .before .before .loop .thirds) (c .before .before .before .before .before .before .before .before .before .before .before .before .before .before .before .args .flags .now) (c .before .before .before .before .before .before .before .before .before .before .before .before .before .before .before .args .first .now) (c .before .before .before .before .before .before .before .before .before .before .before .before .before .before .before .args .second .now) (c .before .before .before .before .before .before .before .before .before .before .before .before .before .before .before .args .strengths .now))
-    ≡ totals (length (c .before .before .before .before .before .before .before .before .before .before .before .before .before .before .before .args .totals .now)) (read (c .before .before .before .before .before .before .before .before .before .before .before .before .before .before .before)) (c .before .before .before .before .before .before .before .before .before .before .before .before .before .before .before .args .temperature) (c .before .before .before .before .before .before .before .before .before .before .before .before .before .before .before .args .strengths .now)
+abbrev start : tie.After-nearest-i64-to-f64 Inv-loop μ-loop → tie.Start Inv-loop μ-loop
+start c = legs-entry (c .before .before .before)
+
+all-held :
+    (c : tie.After-nearest-i64-to-f64 Inv-loop μ-loop)
+    → table (length (start c .args .totals .now))
+    (λ b. bandTotal (record { temperature = start c .args .temperature; cutoff = start c .args .cutoff; weight = c .nearest-i64-to-f64 .result }) (start c .args .bands) (block (start c .args .weights) b) b (c .before .before .loop .seconds) (c .before .before .loop .thirds) (start c .args .flags .now) (start c .args .first .now) (start c .args .second .now) (start c .args .strengths .now))
+    ≡ totals (length (start c .args .totals .now)) (read (start c)) (start c .args .temperature) (start c .args .strengths .now)
 all-held c =
-    let s = c .before .before .before .before .before .before .before .before .before .before .before .before .before .before .before in
+    let s = start c in
     let l = c .before .before .loop in
     let k = c .before .before .before in
     let all : l .j ≡ s .args .bands = omega arith in
     totals-are (read s) _ _
-    (held-part _ _ _ (rw (point1 (k .before .before)) at (k .before .leg-frequencies .ensures)) (rw all at (l .inv .3)))
-    (held-part _ _ _ (rw (point2 (k .before .before)) at (k .leg-frequencies2 .ensures)) (rw all at (l .inv .4)))
+    (held-part _ _ _ (rw (point1 (k .before .before)) at (k .before .leg-frequencies .ensures .0)) (rw all at (l .inv .3)))
+    (held-part _ _ _ (rw (point2 (k .before .before)) at (k .leg-frequencies2 .ensures .0)) (rw all at (l .inv .4)))
     _ _ (c .nearest-i64-to-f64 .ensures ∙ ap (ofInt binary64) (toZ-ofZ w64 _ (s .fits .weight)))
 
 same-length : tie.Need-same-length Inv-loop μ-loop
