@@ -1,11 +1,13 @@
 // What stands where in a slice.
 use phonon::Complex;
 ghost use mathlib.Core.Path.{_≡_};
+ghost use mathlib.Core.List.{[]};
 ghost use Prim.Native.Nat.{_+_, _*_, _<_, _≤_};
-ghost use lib.ListN.{length};
+ghost use lib.ListN.{length, getD};
 ghost use Rattle.phonon.specs.Number.{index, int};
 ghost use Rattle.phonon.specs.Sets.{part};
 ghost use Rattle.phonon.specs.Limits.{workLength};
+ghost use Rattle.phonon.specs.Interaction.{orders};
 ghost use Rattle.planes.specs.Split.{split, putSplit};
 
 // ---- complex numbers in two planes: the real part of number k at off + k, the imaginary part at off + d + k
@@ -73,4 +75,24 @@ pub fn work_length(np: usize, ns: usize) -> usize
 {
     let square = np * np;
     135 * (square * np) + 54 * square + 6 * np * ns + 8 * np
+}
+
+// ---- the orders of the legs
+
+// Document 01's fixed table of six.
+const INDEX_EXCHANGE: [[usize; 3]; 6] = [
+    [0, 1, 2],
+    [2, 0, 1],
+    [1, 2, 0],
+    [2, 1, 0],
+    [0, 2, 1],
+    [1, 0, 2],
+];
+
+// Order number o.
+pub fn order_at(o: usize) -> [usize; 3]
+    requires { ⌜ o < 6 ⌝ }
+    ensures { λ r. ⌜ r ≡ getD orders o [] ⌝ }
+{
+    INDEX_EXCHANGE[o]
 }

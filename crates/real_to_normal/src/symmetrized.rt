@@ -4,6 +4,7 @@ use crate::order::order_constants;
 use phonon::Anchoring;
 use phonon::Form;
 use planes::leg_frequencies;
+use planes::order_at;
 use reciprocal_to_normal::gather::clear;
 use reciprocal_to_normal::gather::gather_sixth;
 use reciprocal_to_normal::listing::full_strengths;
@@ -23,24 +24,6 @@ ghost use Rattle.planes.specs.Region.{Kept};
 ghost use Rattle.planes.specs.Layout.{numbersIn};
 ghost use Rattle.real_to_reciprocal.specs.Shape.{Anchored, Shaped};
 ghost use Rattle.real_to_normal.specs.Work.{factorsAt, preAt, endAt, picked, reciprocalOf, slotIn, sixthOf};
-
-// Document 01's fixed table of six leg orders.
-const INDEX_EXCHANGE: [[usize; 3]; 6] = [
-    [0, 1, 2],
-    [2, 0, 1],
-    [1, 2, 0],
-    [2, 1, 0],
-    [0, 2, 1],
-    [1, 0, 2],
-];
-
-// Leg order number o.
-fn order_at(o: usize) -> [usize; 3]
-    requires { ⌜ o < 6 ⌝ }
-    ensures { λ r. ⌜ r ≡ getD orders o [] ⌝ }
-{
-    INDEX_EXCHANGE[o]
-}
 
 // The grid point of leg x.
 fn pick_point(g0: usize, g1: usize, g2: usize, x: usize) -> usize

@@ -1,6 +1,7 @@
 // Number 9: every phase that the work computes lies within the domain of the sine and cosine.
 use checks::limits;
 use phonon::Symmetry;
+use planes::order_at;
 use real_to_reciprocal::entries::index_at;
 use real_to_reciprocal::phases::compute_q_vec;
 use real_to_reciprocal::phases::phase;
@@ -12,16 +13,6 @@ ghost use Rattle.phonon.specs.Trig.{inDomain};
 ghost use Rattle.phonon.specs.Interaction.{orderCount};
 ghost use Rattle.real_to_reciprocal.specs.Shape.{Anchored, Ranged};
 ghost use Rattle.refusals.specs.Phases.{legPhasesFor, prePhasesFor, ordersFor, phasesFor, legsAt, tripletFine, Anchors, Located};
-
-// The six orders of the legs.
-pub const INDEX_EXCHANGE: [[usize; 3]; 6] = [
-    [0, 1, 2],
-    [2, 0, 1],
-    [1, 2, 0],
-    [2, 1, 0],
-    [0, 2, 1],
-    [1, 0, 2],
-];
 
 fn in_domain(x: f64) -> bool
     ensures { λ r. ⌜ r ≡ inDomain x ⌝ }
@@ -98,7 +89,7 @@ fn orders_ok(
     let q = [q0, q1, q2];
     let count = order_count(symmetry);
     for o in 0..count {
-        let order = INDEX_EXCHANGE[o];
+        let order = order_at(o);
         let a = q[order[0]];
         let b = q[order[1]];
         let c = q[order[2]];

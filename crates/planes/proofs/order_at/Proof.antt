@@ -1,8 +1,8 @@
 -- The table read at o is the definition's.
 use Rattle.phonon.specs.Interaction.{orders}
 use borrow.Author.Needs.{needs}
-use Rattle.real_to_normal.proofs.symmetrized.order_at.Statement.{statement}
-use Rattle.real_to_normal.proofs.symmetrized.order_at.Tie as tie
+use Rattle.planes.proofs.order_at.Statement.{statement}
+use Rattle.planes.proofs.order_at.Tie as tie
 
 mul-result : tie.Need-mul-result
 mul-result c = search needs
