@@ -3,7 +3,6 @@ use mathlib.Core.Path.{refl}
 use Rattle.carton.specs.Heading.{placesWith}
 use Rattle.carton.proofs.MeasureLaws.{modest, Sized, sized}
 use native.Mathlib.Omega.{arith}
-use borrow.Author.Needs.{needs}
 use Rattle.carton.proofs.heading.places_of.Statement.{statement}
 use Rattle.carton.proofs.heading.places_of.Tie as tie
 
