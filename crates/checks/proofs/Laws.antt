@@ -3,8 +3,7 @@ use Prim.Native.Nat.{ℕ, zero, suc, _+_, _-_, _*_, _≤_, _<_}
 use mathlib.Core.Bool.{Bool, true, false, _&&_, cond, true≢false}
 use mathlib.Core.Path.{_≡_, refl, sym, _∙_}
 use mathlib.Core.List.{List, [], _∷_}
-use mathlib.Core.Logic.{_⊎_, inl, inr, ⊎-elim}
-use native.Mathlib.Nat.{eq-or-lt-of-le, suc-mul, zero-mul, sub-zero}
+use native.Mathlib.Nat.{suc-mul, zero-mul, sub-zero}
 use native.Mathlib.Numerals.{add-one}
 use native.Mathlib.Omega.{arith}
 use lib.Ieee.{Float, nan, inf, fin, binary64, add, lt, eq, div, up, down}
@@ -16,6 +15,7 @@ use lib.Dec.{leb, eqb}
 use borrow.Author.Tests.{leb-true, leb-false, ltb-true, ltb-false, eqb-true, eq-eqb, ne-eqb}
 use Rattle.phonon.specs.Tests.{measured, everyBelow, firstFrom, finite, signBit, allTrue, allTrueAfter}
 use Rattle.checks.specs.Scan.{Passed}
+pub use Rattle.phonon.proofs.Accepted.{every-none, every-at, every-bad}
 
 pub and-false : (a : Bool) → (a && false) ≡ false
 and-false true = refl
@@ -65,13 +65,6 @@ leb-same a b c d f g = leb-same-by a b c d f g (leb a b) (leb c d) refl refl
 
 -- ---- the test of every number below an end
 
-below-or-at : (i n : ℕ) → i < suc n → (i < n) ⊎ (i ≡ n)
-below-or-at i n h = ⊎-elim (λ e. inr e) (λ l. inl l) (eq-or-lt-of-le (omega arith))
-
-pub every-none : (p : ℕ → Bool) → everyBelow p 0 ≡ true
-unfolding everyBelow
-every-none p = refl
-
 every-more : (p : ℕ → Bool) (k : ℕ) → everyBelow p k ≡ true → p k ≡ true → everyBelow p (suc k) ≡ true
 unfolding everyBelow
 every-more p k h e = rw h e
@@ -80,26 +73,6 @@ every-more p k h e = rw h e
 pub every-step : (p : ℕ → Bool) (k : ℕ) {a b : Bool} → a ≡ everyBelow p k → b ≡ p k → (a && b) ≡ everyBelow p (k + 1)
 unfolding everyBelow
 every-step p k u v = rw (add-one, u, v) refl
-
--- a fault below the end
-pub every-bad : (p : ℕ → Bool) (n i : ℕ) → i < n → p i ≡ false → everyBelow p n ≡ false
-unfolding everyBelow
-every-bad p zero i h e = absurd (omega arith)
-every-bad p (suc n) i h e =
-    ⊎-elim
-    (λ (l : i < n). rw (every-bad p n i l e) refl)
-    (λ (m : i ≡ n). rw (rw m at e) (and-false (everyBelow p n)))
-    (below-or-at i n h)
-
--- what holds at every number holds at each
-pub every-at : (p : ℕ → Bool) (n i : ℕ) → everyBelow p n ≡ true → i < n → p i ≡ true
-unfolding everyBelow
-every-at p zero i h l = absurd (omega arith)
-every-at p (suc n) i h l =
-    ⊎-elim
-    (λ (k : i < n). every-at p n i (and-left (everyBelow p n) (p n) h) k)
-    (λ (m : i ≡ n). rw m (and-right (everyBelow p n) (p n) h))
-    (below-or-at i n l)
 
 -- ---- the first number at which a test fails
 

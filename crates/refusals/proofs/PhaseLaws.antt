@@ -58,25 +58,24 @@ pub count-most : (symmetry : Symmetry) → orderCount symmetry ≤ 6
 count-most Off = omega arith
 count-most Symmetrized = omega arith
 
--- place k of order o
-abbrev pub place : ℕ → ℕ → ℕ
-place o k = getD (getD orders o []) k 0
+-- each place of an order is the number of a leg
+pub record Places (order : List ℕ) : Type 0 where
+  pub first : getD order 0 0 < 3
+  pub second : getD order 1 0 < 3
+  pub third : getD order 2 0 < 3
 
--- each place of the table is the number of a leg
-pub record Places (o : ℕ) : Type 0 where
-  pub first : place o 0 < 3
-  pub second : place o 1 < 3
-  pub third : place o 2 < 3
-
-pub places : (o : ℕ) → Places o
+table-places : (o : ℕ) → Places (getD orders o [])
 unfolding orders
-places zero = record { first = omega arith; second = omega arith; third = omega arith }
-places (suc zero) = record { first = omega arith; second = omega arith; third = omega arith }
-places (suc (suc zero)) = record { first = omega arith; second = omega arith; third = omega arith }
-places (suc (suc (suc zero))) = record { first = omega arith; second = omega arith; third = omega arith }
-places (suc (suc (suc (suc zero)))) = record { first = omega arith; second = omega arith; third = omega arith }
-places (suc (suc (suc (suc (suc zero))))) = record { first = omega arith; second = omega arith; third = omega arith }
-places (suc (suc (suc (suc (suc (suc o)))))) = record { first = omega arith; second = omega arith; third = omega arith }
+table-places zero = record { first = omega arith; second = omega arith; third = omega arith }
+table-places (suc zero) = record { first = omega arith; second = omega arith; third = omega arith }
+table-places (suc (suc zero)) = record { first = omega arith; second = omega arith; third = omega arith }
+table-places (suc (suc (suc zero))) = record { first = omega arith; second = omega arith; third = omega arith }
+table-places (suc (suc (suc (suc zero)))) = record { first = omega arith; second = omega arith; third = omega arith }
+table-places (suc (suc (suc (suc (suc zero))))) = record { first = omega arith; second = omega arith; third = omega arith }
+table-places (suc (suc (suc (suc (suc (suc o)))))) = record { first = omega arith; second = omega arith; third = omega arith }
+
+pub places : (order : List ℕ) (o : ℕ) → order ≡ getD orders o [] → Places order
+places order o e = rw e (table-places o)
 
 leg-at : {A : Type 0} (a b c d : A) (x : ℕ) → x < 3 → getD (a ∷ (b ∷ (c ∷ []))) x d ≡ leg (record { leg0 = a; leg1 = b; leg2 = c }) x
 leg-at a b c d zero h = refl
@@ -85,14 +84,14 @@ leg-at a b c d (suc (suc zero)) h = refl
 leg-at a b c d (suc (suc (suc x))) h = absurd (omega arith)
 
 -- the legs that order o picks from an array of the three
-pub exchanged-is : (a b c : List Float) (o : ℕ)
+pub exchanged-is : (a b c : List Float) (order : List ℕ) (o : ℕ) → order ≡ getD orders o []
     → _≡_ {A = Legs (List Float)}
-    (record { leg0 = getD (a ∷ (b ∷ (c ∷ []))) (place o 0) []; leg1 = getD (a ∷ (b ∷ (c ∷ []))) (place o 1) []; leg2 = getD (a ∷ (b ∷ (c ∷ []))) (place o 2) [] })
+    (record { leg0 = getD (a ∷ (b ∷ (c ∷ []))) (getD order 0 0) []; leg1 = getD (a ∷ (b ∷ (c ∷ []))) (getD order 1 0) []; leg2 = getD (a ∷ (b ∷ (c ∷ []))) (getD order 2 0) [] })
     (exchanged o (record { leg0 = a; leg1 = b; leg2 = c }))
 unfolding exchanged
-exchanged-is a b c o =
-    let p = places o in
-    rw (leg-at a b c [] (place o 0) (p .first), leg-at a b c [] (place o 1) (p .second), leg-at a b c [] (place o 2) (p .third)) refl
+exchanged-is a b c order o e =
+    let p = places order o e in
+    rw (leg-at a b c [] (getD order 0 0) (p .first), leg-at a b c [] (getD order 1 0) (p .second), leg-at a b c [] (getD order 2 0) (p .third), e) refl
 
 -- the points of triplet t of a list of m
 pub part-located : {m : ℕ} {triplets addresses : List ℤ} (t : ℕ) → Located (m * 3) triplets addresses → t < m → Located 3 (part 3 t triplets) addresses
