@@ -84,8 +84,9 @@ pub struct Two {
     pub two: f64,
 }
 
-// Of r and of s: p = 1, then p = 1 + p * (r / n) for n = 18 down to 1. Both divisions are one instruction where this stands by itself, as a function
-// with several callers does. The divisors are lent: a constant array that is read in a loop is laid out anew in every turn.
+// Of r and of s: p = 1, then p = 1 + p * (r / n) for n = 18 down to 1. Both divisions are one instruction, as long as this
+// stands by itself, which a function with several callers does. The divisors are lent: a constant array that is read in
+// a loop is laid out anew in every turn.
 fn exp_series_two(r: f64, s: f64, divisors: &[f64; 18]) -> Two
     requires { ⌜ length (now divisors) ≡ 18 ⌝ }
     ensures { λ p. ⌜ (p .one ≡ foldl (λ p d. f1 ⊕ p ⊗ (r ⊘ d)) f1 (now (divisors .entry))) × (p .two ≡ foldl (λ p d. f1 ⊕ p ⊗ (s ⊘ d)) f1 (now (divisors .entry))) ⌝ }

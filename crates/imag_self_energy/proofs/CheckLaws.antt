@@ -98,9 +98,9 @@ pub limits : (m : TotalsMeasures) → totalsMeasuresOk m ≡ true → Limits m
 unfolding totalsMeasuresOk
 limits m e =
     let h = holds (atomsOk (m .atoms) ∷ firstOk (m .atoms) (m .first) ∷ gridOk (m .grid) ∷ []) e in
-    let a = measured-in 1 8 (m .atoms) (h .0) in
-    let f = measured-in 1 (3 * m .atoms) (m .first) (h .1 .0) in
-    let g = measured-in 1 65536 (m .grid) (h .1 .1 .0) in
+    let a = measured-in _ _ (m .atoms) (h .0) in
+    let f = measured-in _ _ (m .first) (h .1 .0) in
+    let g = measured-in _ _ (m .grid) (h .1 .1 .0) in
     record { bands = omega arith; first = f .1; some = g .0; grid = g .1 }
 
 -- the products of the measures are small

@@ -1,5 +1,6 @@
 // The tests of totals alone, in order. The number before each is its refusal's.
 use checks::limits;
+use checks::values;
 use phonon::Answer;
 use phonon::Bath;
 use phonon::TotalsMeasures;
@@ -102,20 +103,20 @@ pub fn check(
     ) {
         return Checked::Fails(2);
     }
-    if !checks::values::points_ok(m.grid, &triplet) {
+    if !values::points_ok(m.grid, &triplet) {
         return Checked::Fails(3);
     }
     let real = checks::is_finite(cutoff)
         & checks::all_finite(frequencies)
         & checks::all_finite(strengths)
-        & checks::values::bath_finite(bath, first, second);
+        & values::bath_finite(bath, first, second);
     if !real {
         return Checked::Fails(4);
     }
-    if !checks::values::cutoff_ok(cutoff) {
+    if !values::cutoff_ok(cutoff) {
         return Checked::Fails(7);
     }
-    if !checks::values::bath_ok(bath) {
+    if !values::bath_ok(bath) {
         return Checked::Fails(8);
     }
     Checked::Bands(bands)

@@ -26,7 +26,7 @@ passed : (c : tie.Else1) → atomsOk (c .before .before .args .m .atoms) ≡ tru
 passed c = sym (c .before .is-measured .ensures) ∙ not-false _ (c .if1 .left)
 
 mul-bands : tie.Need-mul-bands
-mul-bands c = omega (arith, measured-in 1 8 (c .before .before .before .args .m .atoms) (passed (c .before)))
+mul-bands c = omega (arith, measured-in _ _ (c .before .before .before .args .m .atoms) (passed (c .before)))
 
 is-measured-requires-2 : tie.Need-is-measured-requires-2
 is-measured-requires-2 c κs = search needs

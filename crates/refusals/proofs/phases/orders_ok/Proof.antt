@@ -8,7 +8,6 @@ use lib.ListN.{getD}
 use borrow.Author.Needs.{needs}
 use borrow.Author.Tests.{not-true, not-false}
 use Rattle.phonon.specs.Tests.{everyBelow}
-use Rattle.phonon.specs.Interaction.{orders}
 use Rattle.checks.proofs.Laws.{every-bad}
 use Rattle.refusals.specs.Phases.{ordersFor}
 use Rattle.refusals.proofs.TestLaws.{every-none, every-next}
@@ -47,10 +46,10 @@ start-of c = c .before .before .before .before .before .before .before .before .
 
 -- what the call told of the order
 tested : (c : tie.After-pre-phases-ok Inv-loop μ-loop) → c .pre-phases-ok .result ≡ fine (start-of c) (c .before .before .before .before .before .before .before .before .before .loop .o)
-unfolding orders
 tested c =
     let s = start-of c in
-    rw (exchanged-is (s .args .q0) (s .args .q1) (s .args .q2) (c .before .before .before .before .before .before .before .before .before .loop .o)) at (c .pre-phases-ok .ensures)
+    let k = c .before .before .before .before .before .before .before in
+    rw (exchanged-is (s .args .q0) (s .args .q1) (s .args .q2) (k .order-at .result) (k .before .before .loop .o) (k .order-at .ensures)) at (c .pre-phases-ok .ensures)
 
 order-count-requires : tie.Need-order-count-requires Inv-loop μ-loop
 order-count-requires c κs = search needs
@@ -58,44 +57,35 @@ order-count-requires c κs = search needs
 loop-holds : tie.Need-loop-holds Inv-loop μ-loop
 loop-holds c = (omega arith, every-none (fine (c .before .before)))
 
-mul-order : tie.Need-mul-order Inv-loop μ-loop
-mul-order c = omega (arith, order-in c)
-
-array-copy-out-order : tie.Need-array-copy-out-order Inv-loop μ-loop
-array-copy-out-order c = order-in c
+order-at-requires : tie.Need-order-at-requires Inv-loop μ-loop
+order-at-requires c κs = order-in c
 
 array-read-a : tie.Need-array-read-a Inv-loop μ-loop
 array-read-a c = omega arith
 
 mul-a : tie.Need-mul-a Inv-loop μ-loop
-unfolding orders
-mul-a c = omega (arith, places (c .before .before .loop .o) .first)
+mul-a c = omega (arith, places (c .order-at .result) (c .before .before .loop .o) (c .order-at .ensures) .first)
 
 array-copy-out-a : tie.Need-array-copy-out-a Inv-loop μ-loop
-unfolding orders
-array-copy-out-a c = places (c .before .before .loop .o) .first
+array-copy-out-a c = places (c .order-at .result) (c .before .before .loop .o) (c .order-at .ensures) .first
 
 array-read-b : tie.Need-array-read-b Inv-loop μ-loop
 array-read-b c = omega arith
 
 mul-b : tie.Need-mul-b Inv-loop μ-loop
-unfolding orders
-mul-b c = omega (arith, places (c .before .before .before .loop .o) .second)
+mul-b c = omega (arith, places (c .before .order-at .result) (c .before .before .before .loop .o) (c .before .order-at .ensures) .second)
 
 array-copy-out-b : tie.Need-array-copy-out-b Inv-loop μ-loop
-unfolding orders
-array-copy-out-b c = places (c .before .before .before .loop .o) .second
+array-copy-out-b c = places (c .before .order-at .result) (c .before .before .before .loop .o) (c .before .order-at .ensures) .second
 
 array-read-c : tie.Need-array-read-c Inv-loop μ-loop
 array-read-c c = omega arith
 
 mul-c : tie.Need-mul-c Inv-loop μ-loop
-unfolding orders
-mul-c c = omega (arith, places (c .before .before .before .before .loop .o) .third)
+mul-c c = omega (arith, places (c .before .before .order-at .result) (c .before .before .before .before .loop .o) (c .before .before .order-at .ensures) .third)
 
 array-copy-out-c : tie.Need-array-copy-out-c Inv-loop μ-loop
-unfolding orders
-array-copy-out-c c = places (c .before .before .before .before .loop .o) .third
+array-copy-out-c c = places (c .before .before .order-at .result) (c .before .before .before .before .loop .o) (c .before .before .order-at .ensures) .third
 
 pre-phases-ok-requires : tie.Need-pre-phases-ok-requires Inv-loop μ-loop
 pre-phases-ok-requires c κs = c .before .before .before .before .before .before .before .before .before .before .before .pre
@@ -132,8 +122,7 @@ orders-ok-spec =
     μ-loop
     order-count-requires
     loop-holds
-    mul-order
-    array-copy-out-order
+    order-at-requires
     array-read-a
     mul-a
     array-copy-out-a
