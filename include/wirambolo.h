@@ -8,7 +8,7 @@
  *   wirambolo_joined_at_triplet             the strengths and the totals of one triplet
  *
  * Link with libwirambolo_c.a (made by `rt staticlib wirambolo_c`, in target/staticlib), which needs
- * nothing but memset of the C library.
+ * nothing but memcpy and memset of the C library.
  *
  *
  * WHAT IS PROMISED

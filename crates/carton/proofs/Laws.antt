@@ -12,10 +12,11 @@ use mir.Val.{toZ, ofZ, SFits}
 use mir.ValLaws.{toZ-ofZ}
 use mir.Syntax.{w64}
 use borrow.Author.Tests.{lt-ltb, le-ltb}
-use lib.Ieee.{Float, nan, inf, fin, isNan, binary64, ofBits, nanBits}
+use lib.Ieee.{nan, binary64, ofBits, nanBits}
 use lib.Ieee.Bits.{nanBits-is}
 use Rattle.phonon.specs.Number.{table}
 use Rattle.phonon.proofs.Laws.{table-snoc}
+use Rattle.phonon.proofs.Order.{is-nan}
 use Rattle.carton.specs.Words.{intOf}
 
 module _ {A : Type 0} (f : ℕ → A) where
@@ -30,12 +31,6 @@ module _ {A : Type 0} (f : ℕ → A) where
       sym (take-all n l (omega arith)) ∙ rw same at t
 
 -- ---- floats
-
-is-nan : (x : Float) → isNan x ≡ true → nan ≡ x
-unfolding isNan
-is-nan nan e = refl
-is-nan (inf s) e = absurd (let z : _≡_ {A = ℕ} 0 1 = cc in omega arith)
-is-nan (fin s m d) e = absurd (let z : _≡_ {A = ℕ} 0 1 = cc in omega arith)
 
 pub nan-pattern : (w : ℕ) → nanBits binary64 w ≡ true → nan ≡ ofBits binary64 w
 nan-pattern w e = is-nan (ofBits binary64 w) (sym (nanBits-is binary64 w) ∙ e)

@@ -3,7 +3,7 @@ use Prim.Native.Nat.{ℕ, zero, suc, _+_, _-_, _*_, _≤_, _<_}
 use mathlib.Core.Bool.{Bool, true, false, _&&_, cond, true≢false}
 use mathlib.Core.Path.{_≡_, refl, sym, _∙_}
 use mathlib.Core.List.{List, [], _∷_}
-use native.Mathlib.Nat.{suc-mul, zero-mul, sub-zero}
+use native.Mathlib.Nat.{zero-mul, sub-zero}
 use native.Mathlib.Numerals.{add-one}
 use native.Mathlib.Omega.{arith}
 use lib.Ieee.{Float, nan, inf, fin, binary64, add, lt, eq, div, up, down}
@@ -14,21 +14,16 @@ use lib.IntN.{ℤ, pos}
 use lib.Dec.{leb, eqb}
 use borrow.Author.Tests.{leb-true, leb-false, ltb-true, ltb-false, eqb-true, eq-eqb, ne-eqb}
 use Rattle.phonon.specs.Tests.{measured, everyBelow, firstFrom, finite, signBit, allTrue, allTrueAfter}
+use Rattle.phonon.proofs.Accepted.{and-both}
+use Rattle.phonon.proofs.Order.{zero-left}
 use Rattle.checks.specs.Scan.{Passed}
 pub use Rattle.phonon.proofs.Accepted.{every-none, every-at, every-bad}
 
-pub and-false : (a : Bool) → (a && false) ≡ false
-and-false true = refl
-and-false false = refl
-
 pub and-left : (a b : Bool) → (a && b) ≡ true → a ≡ true
-and-left true b e = refl
-and-left false b e = e
+and-left a b e = and-both a b e .0
 
 pub and-right : (a b : Bool) → (a && b) ≡ true → b ≡ true
-and-right true b e = e
-and-right false true e = refl
-and-right false false e = e
+and-right a b e = and-both a b e .1
 
 -- ---- every test of a list of tests
 
@@ -157,12 +152,8 @@ below-zero (inf s) e = sym e
 below-zero (fin true m d) e = refl
 below-zero (fin false m d) e = absurd (omega (arith, ltb-true (m * up d * 1) (0 * down d) e, zero-mul (down d)))
 
-zero-of : (m k : ℕ) → 0 < k → m * k ≡ 0 → m ≡ 0
-zero-of zero k h e = refl
-zero-of (suc m) k h e = absurd (omega (arith, suc-mul m k))
-
 no-magnitude : (m : ℕ) (d : ℤ) → eqb (m * up d * 1) (0 * down d) ≡ true → m ≡ 0
-no-magnitude m d e = zero-of m (up d) (up-pos d) (omega (arith, eqb-true (m * up d * 1) (0 * down d) e, zero-mul (down d)))
+no-magnitude m d e = zero-left m (up d) (up-pos d) (omega (arith, eqb-true (m * up d * 1) (0 * down d) e, zero-mul (down d)))
 
 pub zero-sign : (x : Float) → eq x zero-float ≡ true → lt (div binary64 (fin false 1 (pos 0)) x) zero-float ≡ signBit x
 unfolding eq lt div signBit

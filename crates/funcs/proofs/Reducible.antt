@@ -1,9 +1,10 @@
 -- The numbers between 0 and 709: what their test shows, and the exponential from its parts.
-use mathlib.Core.Path.{_≡_, refl, sym, _∙_}
+use mathlib.Core.Path.{_≡_, refl, sym}
 use mathlib.Core.Bool.{Bool, true, false, not, _&&_, true≢false}
 use lib.IntN.{pos}
 use lib.Ieee.{Float, fin, lt, le}
 use Rattle.phonon.specs.Number.{_⊗_, f0, whole}
+use Rattle.phonon.proofs.Accepted.{and-both}
 use Rattle.phonon.specs.Exp.{exp, byRange, scaled, expSeries, count, remainder}
 use Rattle.funcs.specs.Reducible.{reducible}
 use Rattle.funcs.proofs.Range.{limit}
@@ -31,8 +32,4 @@ exp-parts x p t e hp ht = let h = in-range x e in rw (h .0, h .1, hp, ht) refl
 
 -- the tests of two numbers, at once
 pub both : (x y : Float) {a b : Bool} → a ≡ reducible x → b ≡ reducible y → (a && b) ≡ true → (reducible x ≡ true) × (reducible y ≡ true)
-both x y p q e = by (reducible x) (reducible y) (rw (p, q) at e)
-  where
-    by : (a b : Bool) → (a && b) ≡ true → (a ≡ true) × (b ≡ true)
-    by true b u = (refl, u)
-    by false b u = absurd (true≢false (sym u))
+both x y p q e = and-both (reducible x) (reducible y) (rw (p, q) at e)

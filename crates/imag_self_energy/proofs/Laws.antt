@@ -3,7 +3,7 @@ use Prim.Native.Nat.{ℕ, _+_, _*_, _<_, _≤_}
 use native.Mathlib.Nat.{mul-le-mul-right, mul-assoc, one-mul, eq-or-lt-of-le}
 use native.Mathlib.Omega.{arith}
 use mathlib.Core.Path.{_≡_, refl, sym, ap, _∙_}
-use mathlib.Core.Bool.{Bool, true, false, not, _&&_, cond, true≢false}
+use mathlib.Core.Bool.{Bool, true, false, not, _&&_, cond}
 use mathlib.Core.List.{List}
 use mathlib.Core.Logic.{_⊎_, ⊎-elim}
 use lib.Dec.{eqb}
@@ -18,6 +18,7 @@ use Rattle.phonon.specs.Funcs.{boseEinstein}
 use Rattle.phonon.specs.Sets.{slot, part}
 use Rattle.phonon.specs.Limits.{entriesOf}
 use Rattle.phonon.specs.ImagSelfEnergy.{Sum, block, placeOf, second1, third2, counted, contribution, slotTerm, total, totals}
+use Rattle.phonon.proofs.Accepted.{and-both}
 use Rattle.phonon.proofs.Laws.{fold-ext, fold-step, table-ext, table-at, table-length}
 use Rattle.funcs.specs.Occupation.{mark, marked}
 use Rattle.imag_self_energy.specs.Bands.{bandOf, Held, addSlot, slotStep, columnSum, bandTotal, Within, Sized}
@@ -57,11 +58,7 @@ band-made t c f n e = rw e refl
 
 -- both exceed the cutoff
 pub both-above : (c f g : Float) → (lt c f && lt c g) ≡ true → (lt c f ≡ true) × (lt c g ≡ true)
-both-above c f g e = by (lt c f) (lt c g) e
-  where
-    by : (a b : Bool) → (a && b) ≡ true → (a ≡ true) × (b ≡ true)
-    by true b u = (refl, u)
-    by false b u = absurd (true≢false (sym u))
+both-above c f g e = and-both (lt c f) (lt c g) e
 
 pub held-none : (t c : Float) (f : ℕ → Float) (l : List Band) → Held t c f 0 l
 held-none t c f l = record { held = λ i h d. absurd (omega arith) }

@@ -1,8 +1,7 @@
 -- A set that fails a test is answered with its number; one that passes is left as its definition says.
-use Prim.Native.Nat.{ℕ, zero, suc}
-use mathlib.Core.Path.{_≡_, refl, sym}
+use Prim.Native.Nat.{ℕ}
+use mathlib.Core.Path.{_≡_, refl}
 use mathlib.Core.List.{List}
-use native.Mathlib.Omega.{arith}
 use lib.Ieee.{Float}
 use Rattle.phonon.specs.declared.Answer.{Answer}
 use Rattle.phonon.specs.declared.Answer.the-variants.{Accepted}
@@ -12,7 +11,7 @@ use Rattle.phonon.specs.Interaction.{strengths, listStrengths}
 use Rattle.phonon.specs.Refusal.{tripletRefusal, listRefusal}
 use Rattle.phonon.specs.Doors.{cleared, answerFor, StrengthsOutcome, tripletLeaves, tripletOutcome, listLeaves, listOutcome}
 use Rattle.refusals.specs.declared.Checked.{Checked}
-use Rattle.refusals.specs.declared.Checked.the-variants.{Good, Bad}
+use Rattle.refusals.specs.declared.Checked.the-variants.{Bad}
 use Rattle.refusals.specs.Answers.{checkedOf, answerOf}
 use Rattle.refusals.proofs.AnswerLaws.{turned-back}
 

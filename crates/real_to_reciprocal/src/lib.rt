@@ -1,7 +1,6 @@
 // real_to_reciprocal.rs: the force constants in reciprocal space.
 pub mod blocks;
 pub mod elements;
-pub mod entries;
 pub mod phases;
 
 use crate::blocks::block;

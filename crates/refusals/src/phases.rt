@@ -1,8 +1,8 @@
 // Number 9: every phase that the work computes lies within the domain of the sine and cosine.
 use checks::limits;
 use phonon::Symmetry;
+use planes::index_at;
 use planes::order_at;
-use real_to_reciprocal::entries::index_at;
 use real_to_reciprocal::phases::compute_q_vec;
 use real_to_reciprocal::phases::phase;
 use real_to_reciprocal::phases::pre_phase;

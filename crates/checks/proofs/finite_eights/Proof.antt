@@ -1,12 +1,9 @@
 -- Eight entries that are finite are passed at once.
-use Prim.Native.Nat.{ℕ, _-_}
+use Prim.Native.Nat.{_-_}
 use mathlib.Core.Path.{sym, _∙_}
-use mathlib.Core.Bool.{Bool}
-use mathlib.Core.List.{List}
 use native.Mathlib.Omega.{arith}
 use borrow.Author.Needs.{needs}
 use lib.ListN.{length}
-use lib.Ieee.{Float}
 use Rattle.phonon.specs.Number.{at}
 use Rattle.phonon.specs.Tests.{finite}
 use Rattle.checks.specs.Scan.{Passed}

@@ -1,6 +1,6 @@
 -- `funcs::both_series` meets its contract: what is left of the two folds over the divisors gives the whole. Assumes nothing.
 use mathlib.Core.Path.{_≡_, refl, _∙_, sym}
-use mathlib.Core.List.{[], _∷_, foldl}
+use mathlib.Core.List.{foldl}
 use Prim.Native.Nat.{_≤_, _-_}
 use native.Mathlib.Omega.{arith}
 use borrow.Author.Needs.{needs}

@@ -1,5 +1,5 @@
 -- Within the range the whole part is small enough for a power of two.
-use mathlib.Core.Path.{_≡_, refl, sym, _∙_}
+use mathlib.Core.Path.{refl}
 use native.Mathlib.Omega.{arith}
 use borrow.Author.Needs.{needs}
 use Rattle.funcs.proofs.Range.{exp-whole}

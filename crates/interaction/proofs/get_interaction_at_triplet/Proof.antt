@@ -1,5 +1,4 @@
 -- A set that fails a test is answered with its number and left as it is; one that passes is handed to the worker.
-use Prim.Native.Nat.{ℕ}
 use mathlib.Core.Path.{_≡_, refl, sym, _∙_}
 use borrow.Author.Needs.{needs}
 use Rattle.phonon.specs.Sets.{TripletSet}

@@ -1,6 +1,6 @@
 -- After i turns i numbers are copied.
-use mathlib.Core.Path.{_≡_, sym, ap, _∙_}
-use Prim.Native.Nat.{ℕ, suc, _+_, _-_, _≤_}
+use mathlib.Core.Path.{_≡_, ap, _∙_}
+use Prim.Native.Nat.{suc, _+_, _-_, _≤_}
 use native.Mathlib.Omega.{arith}
 use lib.Ieee.{nan}
 use lib.ListN.{length, set}

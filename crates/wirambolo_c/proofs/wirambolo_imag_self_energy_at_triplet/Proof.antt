@@ -1,15 +1,12 @@
 -- A call that cannot be read is answered with 255 and left as it is; any other is the door's.
-use mathlib.Core.Path.{_≡_, sym, _∙_}
-use mathlib.Core.Bool.{true, false, _&&_}
-use lib.Dec.{eqb}
-use lib.ListN.{length}
+use mathlib.Core.Path.{sym}
 use borrow.Author.Needs.{needs}
 use borrow.Author.Tests.{eqb-true, not-true, not-false}
 use mir.ValLaws.{toZ-ofZ}
 use mir.Syntax.{w64}
 use Rattle.phonon.specs.Sets.{TotalsSet}
 use Rattle.phonon.proofs.Accepted.{and-both}
-use Rattle.wirambolo_c.specs.Foreign.{known, weightsOf}
+use Rattle.wirambolo_c.specs.Foreign.{weightsOf}
 use Rattle.wirambolo_c.proofs.Laws.{totals-unread, totals-answered}
 use Rattle.wirambolo_c.proofs.wirambolo_imag_self_energy_at_triplet.Statement.{statement}
 use Rattle.wirambolo_c.proofs.wirambolo_imag_self_energy_at_triplet.Tie as tie

@@ -1,6 +1,6 @@
 -- A call that cannot be read is answered with 255 and left as it is; any other is the door's.
 use mathlib.Core.Path.{_≡_, sym, _∙_}
-use mathlib.Core.Bool.{true, false, _&&_}
+use mathlib.Core.Bool.{true}
 use lib.Dec.{eqb}
 use lib.ListN.{length}
 use borrow.Author.Needs.{needs}
@@ -9,7 +9,7 @@ use mir.ValLaws.{toZ-ofZ}
 use mir.Syntax.{w64}
 use Rattle.phonon.specs.Sets.{JoinedSet}
 use Rattle.phonon.proofs.Accepted.{and-both}
-use Rattle.wirambolo_c.specs.Foreign.{tablesRead, anchoringOf, formOf, symmetryOf}
+use Rattle.wirambolo_c.specs.Foreign.{anchoringOf, formOf, symmetryOf}
 use Rattle.wirambolo_c.proofs.Laws.{grid-lengths, tables-same, joined-same, joined-unread, joined-answered}
 use Rattle.wirambolo_c.proofs.wirambolo_joined_at_triplet.Statement.{statement}
 use Rattle.wirambolo_c.proofs.wirambolo_joined_at_triplet.Tie as tie

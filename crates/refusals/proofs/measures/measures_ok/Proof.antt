@@ -2,12 +2,11 @@
 use borrow.Author.Needs.{needs}
 use borrow.Author.Tests.{lt-leb}
 use lib.Dec.{leb}
-use mathlib.Core.Bool.{false}
+use mathlib.Core.Bool.{false, and-false}
 use mathlib.Core.Path.{_≡_, refl}
 use Rattle.phonon.specs.Tests.{allTrue, allTrueAfter}
 use Rattle.phonon.specs.Limits.{atomsOk}
 use Rattle.phonon.specs.Refusal.{measuresOk}
-use Rattle.checks.proofs.Laws.{and-false}
 use Rattle.refusals.proofs.measures.measures_ok.Statement.{statement}
 use Rattle.refusals.proofs.measures.measures_ok.Tie as tie
 

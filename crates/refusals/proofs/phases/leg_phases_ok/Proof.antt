@@ -9,7 +9,7 @@ use borrow.Author.Tests.{not-true, not-false}
 use Rattle.phonon.specs.Tests.{everyBelow}
 use Rattle.real_to_reciprocal.proofs.TestLaws.{ranged-at}
 use Rattle.checks.proofs.Laws.{every-bad}
-use Rattle.refusals.proofs.TestLaws.{every-none, every-next}
+use Rattle.phonon.proofs.Accepted.{every-none, every-next}
 use Rattle.refusals.proofs.PhaseLaws.{vectorFine, entryFine, entry-is, leg-is}
 use Rattle.refusals.proofs.phases.leg_phases_ok.Statement.{statement}
 use Rattle.refusals.proofs.phases.leg_phases_ok.Tie as tie

@@ -7,7 +7,7 @@ use borrow.Author.Tests.{not-true, not-false}
 use Rattle.phonon.specs.Tests.{everyBelow}
 use Rattle.checks.proofs.Laws.{every-bad}
 use Rattle.refusals.specs.Phases.{tripletFine}
-use Rattle.refusals.proofs.TestLaws.{every-none, every-next}
+use Rattle.phonon.proofs.Accepted.{every-none, every-next}
 use Rattle.refusals.proofs.PhaseLaws.{part-located}
 use Rattle.refusals.proofs.phases.list_phases_ok.Statement.{statement}
 use Rattle.refusals.proofs.phases.list_phases_ok.Tie as tie

@@ -10,7 +10,7 @@ use borrow.Author.Tests.{not-true, not-false}
 use Rattle.phonon.specs.Tests.{everyBelow}
 use Rattle.checks.proofs.Laws.{every-bad}
 use Rattle.refusals.specs.Phases.{ordersFor}
-use Rattle.refusals.proofs.TestLaws.{every-none, every-next}
+use Rattle.phonon.proofs.Accepted.{every-none, every-next}
 use Rattle.refusals.proofs.PhaseLaws.{orderFine, orders-are, count-most, places, exchanged-is}
 use Rattle.refusals.proofs.phases.orders_ok.Statement.{statement}
 use Rattle.refusals.proofs.phases.orders_ok.Tie as tie

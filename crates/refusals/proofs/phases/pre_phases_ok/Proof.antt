@@ -16,7 +16,7 @@ use Rattle.phonon.specs.Tests.{everyBelow}
 use Rattle.real_to_reciprocal.proofs.TestLaws.{atom-below}
 use Rattle.real_to_reciprocal.proofs.PhaseLaws.{anchor-at, anchor-in}
 use Rattle.checks.proofs.Laws.{every-bad}
-use Rattle.refusals.proofs.TestLaws.{every-none, every-next}
+use Rattle.phonon.proofs.Accepted.{every-none, every-next}
 use Rattle.refusals.proofs.PhaseLaws.{atomFine, atoms-are}
 use Rattle.refusals.proofs.phases.pre_phases_ok.Statement.{statement}
 use Rattle.refusals.proofs.phases.pre_phases_ok.Tie as tie

@@ -1,2 +1,0 @@
-// Entries of the tables of whole numbers.
-pub use planes::index_at;
