@@ -47,6 +47,9 @@ module _ (P S : ℕ) where
   scratch-end = omega arith
 
   -- a slice that is long enough, and still is after a stage
+  pub legs-fit : {n : ℕ} → endAt P S ≤ n → preAt P S ≤ n
+  legs-fit h = omega arith
+
   pub pre-fits : {n : ℕ} → scratchAt P S ≤ n → preAt P S + 2 * P ≤ n
   pre-fits h = omega arith
 
@@ -61,6 +64,10 @@ module _ (P S : ℕ) where
 
   pub listing-fits : {m n : ℕ} → m ≡ n → endAt P S ≤ n → endAt P S ≤ m
   listing-fits e h = omega arith
+
+  -- the legs, and then what lies behind them
+  pub kept-legs : {l l₁ l₂ : List Float} → Kept l l₁ 0 (preAt P S) → Kept l₁ l₂ (preAt P S) (endAt P S) → Kept l l₂ 0 (endAt P S)
+  kept-legs k h = kept-then (kept-wider 0 (endAt P S) (omega arith) (omega arith) k) (kept-wider 0 (endAt P S) (omega arith) (omega arith) h)
 
   -- the force constants, and then the scratch and the listing
   pub kept-listing : {l l₁ l₂ : List Float} → Kept l l₁ (preAt P S) (scratchAt P S) → Kept l₁ l₂ (scratchAt P S) (endAt P S) → Kept l l₂ (preAt P S) (endAt P S)
