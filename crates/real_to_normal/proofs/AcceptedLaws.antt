@@ -72,6 +72,15 @@ module _ (s : TripletSet) (e : tripletRefusal s ≡ 0) where
         constants = facts .sized .constants ∙ ap (λ (r : ℕ). r * S * S * 27) (rows-are (s .tables .crystal .forces .form) (s .tables .measures));
       }
 
+  pub atoms-few : P ≤ 256
+  atoms-few = omega (arith, facts .measured .atoms-most)
+
+  pub supercell-few : S ≤ 256
+  supercell-few = omega (arith, facts .measured .supercell-most)
+
+  pub masses-fit : P ≤ length (s .tables .crystal .masses)
+  masses-fit = omega (arith, facts .sized .masses)
+
   pub room : endAt P S ≤ length (s .work)
   room = omega (arith, end-fits P S (facts .measured .atoms), facts .work)
 

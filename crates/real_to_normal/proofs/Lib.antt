@@ -1,3 +1,4 @@
+pub mod PlaceLaws
 pub mod LegLaws
 pub mod OrderLaws
 pub mod SlotLaws

@@ -15,6 +15,7 @@ use Rattle.planes.specs.Layout.{numbersIn, constantsIn}
 use Rattle.planes.proofs.RegionLaws.{kept-then, kept-wider, kept-split}
 use Rattle.planes.proofs.WorkLaws.{numbers-below, numbers-wrote}
 use Rattle.planes.proofs.Products.{row-le}
+use Rattle.real_to_reciprocal.specs.Stored.{regionEnd}
 use Rattle.real_to_normal.specs.Work.{factorsAt, preAt, constantsAt, scratchAt, picked, reciprocalOf}
 
 -- the third of three, where it is neither the first nor the second
@@ -43,7 +44,7 @@ module _ (P S : ℕ) (a : Anchoring) (c : Forces) (vectors : List Float) (multip
     {g0 g1 g2 : ℕ} (h0 : g0 ≡ factorsAt P S x0) (h1 : g1 ≡ factorsAt P S x1) (h2 : g2 ≡ factorsAt P S x2)
     (r : constantsIn l₂ (constantsAt P S) P ≡ reciprocalFrom P S a c (numbersIn l₁ (preAt P S) P P)
     (record { leg0 = numbersIn l₁ g0 (P * S) (P * S); leg1 = numbersIn l₁ g1 (P * S) (P * S); leg2 = numbersIn l₁ g2 (P * S) (P * S) }))
-    (k : Kept l₁ l₂ (constantsAt P S) (scratchAt P S)) where
+    (k : Kept l₁ l₂ (constantsAt P S) (regionEnd (constantsAt P S) P)) where
   kept₁ : Kept l l₁ (preAt P S) (constantsAt P S)
   kept₁ = kept-split (preAt P S) (constantsAt P S) (omega arith) (omega arith) refl w
 

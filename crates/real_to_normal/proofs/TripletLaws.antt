@@ -17,7 +17,7 @@ use Rattle.phonon.specs.declared.Symmetry.the-variants.{Off, Symmetrized}
 use Rattle.phonon.specs.Number.{_⊕_, _⊘_, f0, f6, at, flagged, fold, table}
 use Rattle.phonon.specs.Sets.{Forces, Triplet, slots, Legs}
 use Rattle.phonon.specs.Tests.{allWithin}
-use Rattle.phonon.specs.RealToReciprocal.{reciprocal}
+use Rattle.phonon.specs.RealToReciprocal.{qAt, reciprocal}
 use Rattle.phonon.specs.ReciprocalToNormal.{inverseRoots, Phonon, phononAt, strength}
 use Rattle.phonon.specs.Interaction.{orders, leg, exchanged, legQ, point, orderCount, reciprocals, sixth, value, flaggedValue, phononsAt, strengthWith, slotWith, strengthsWith, strengths}
 use Rattle.phonon.specs.Limits.{workLength}
@@ -27,7 +27,8 @@ use Rattle.planes.specs.Region.{Kept}
 use Rattle.planes.proofs.WorkLaws.{drop-kept}
 use Rattle.reciprocal_to_normal.specs.Slots.{bOf, jOf, kOf}
 use Rattle.reciprocal_to_normal.proofs.SlotLaws.{slot-of}
-use Rattle.real_to_normal.specs.Work.{Prepared, picked, reciprocalOf, legIn, slotIn, sixthOf, slotPhonons, slotValue}
+use Rattle.real_to_normal.proofs.AcceptedLaws.{end-fits}
+use Rattle.real_to_normal.specs.Work.{endAt, Prepared, picked, reciprocalOf, legIn, slotIn, sixthOf, slotPhonons, slotValue}
 use Rattle.real_to_normal.proofs.SlotLaws.{slot-bands}
 
 -- ---- numbers that are cleared one by one
@@ -136,15 +137,21 @@ module _ (t : Triplet) (before : List Float) where
       ∙ table-ext (slots (t .tables .measures)) _ _ (λ n h. slot-value n)
 
   -- the same, with the legs' points and q as the work has them
-  pub strengths-from : {out : List Float} (g : Legs ℕ) (q : Legs (List Float)) → g ≡ legPoints → q ≡ legQ t → length (t .tables .bands) ≡ t .tables .measures .first
-      → out ≡ table (length (t .tables .bands) * (3 * m) * (3 * m)) (λ n. slotValue (t .tables .symmetry) constantsAt m q (slotPhonons m inverse (t .tables .phonons) g (t .tables .bands) n) (t .tables .settings .cutoff) (t .flags) (at before n) n)
+  pub strengths-from : {out : List Float} {g0 g1 g2 : ℕ} {q0 q1 q2 : List Float} → g0 ≡ point t 0 → g1 ≡ point t 1 → g2 ≡ point t 2
+      → q0 ≡ qAt (t .tables .grid) g0 → q1 ≡ qAt (t .tables .grid) g1 → q2 ≡ qAt (t .tables .grid) g2 → length (t .tables .bands) ≡ t .tables .measures .first
+      → out ≡ table (length (t .tables .bands) * (3 * m) * (3 * m)) (λ n. slotValue (t .tables .symmetry) constantsAt m (record { leg0 = q0; leg1 = q1; leg2 = q2 })
+      (slotPhonons m inverse (t .tables .phonons) (record { leg0 = g0; leg1 = g1; leg2 = g2 }) (t .tables .bands) n) (t .tables .settings .cutoff) (t .flags) (at before n) n)
       → out ≡ strengths t before
-  strengths-from g q eg eq e r =
-      strengths-are e (r ∙ ap₂ (λ (x : Legs ℕ) (y : Legs (List Float)). table (length (t .tables .bands) * (3 * m) * (3 * m)) (λ n. slotValue (t .tables .symmetry) constantsAt m y (slotPhonons m inverse (t .tables .phonons) x (t .tables .bands) n) (t .tables .settings .cutoff) (t .flags) (at before n) n)) eg eq)
+  strengths-from e0 e1 e2 h0 h1 h2 e r =
+      let u0 = h0 ∙ ap (qAt (t .tables .grid)) e0 in
+      let u1 = h1 ∙ ap (qAt (t .tables .grid)) e1 in
+      let u2 = h2 ∙ ap (qAt (t .tables .grid)) e2 in
+      strengths-are e (r ∙ ap₂ (λ (x : Legs ℕ) (y : Legs (List Float)). table (length (t .tables .bands) * (3 * m) * (3 * m)) (λ n. slotValue (t .tables .symmetry) constantsAt m y (slotPhonons m inverse (t .tables .phonons) x (t .tables .bands) n) (t .tables .settings .cutoff) (t .flags) (at before n) n))
+      (λ i. record { leg0 = e0 i; leg1 = e1 i; leg2 = e2 i }) (λ i. record { leg0 = u0 i; leg1 = u1 i; leg2 = u2 i }))
 
 -- ---- the work buffer
 
-pub cleared-is : {w w₁ out : List Float} {b : ℕ} (n : ℕ) (m : Measures) → Kept w w₁ 0 b → b ≤ n → n ≡ workLength (m .atoms) (m .supercell) → out ≡ replicate n f0 ++ drop n w₁ → out ≡ cleared m w
+pub cleared-is : {w w₁ out : List Float} {n : ℕ} (m : Measures) → 1 ≤ m .atoms → Kept w w₁ 0 (endAt (m .atoms) (m .supercell)) → n ≡ workLength (m .atoms) (m .supercell) → out ≡ replicate n f0 ++ drop n w₁ → out ≡ cleared m w
 unfolding cleared
-cleared-is {w} n m k h e r =
-    r ∙ ap (λ (d : List Float). replicate n f0 ++ d) (drop-kept k n h) ∙ ap (λ (x : ℕ). replicate x f0 ++ drop x w) e
+cleared-is {w} {n = n} m p k e r =
+    r ∙ ap (λ (d : List Float). replicate n f0 ++ d) (drop-kept k n (omega (arith, end-fits (m .atoms) (m .supercell) p, e))) ∙ ap (λ (x : ℕ). replicate x f0 ++ drop x w) e

@@ -1,13 +1,9 @@
 -- The legs picked in this order hand their factors and pre-factors to the blocks.
-use Rattle.planes.proofs.RegionLaws.{kept-wider}
-use Rattle.planes.proofs.Products.{row-le}
-use Rattle.real_to_normal.specs.Work.{constantsAt, scratchAt}
-use Prim.Native.Nat.{ℕ, _*_}
 use mathlib.Core.List.{List}
 use lib.Ieee.{Float}
 use Rattle.phonon.specs.Sets.{Legs, Forces}
+use Rattle.real_to_normal.proofs.PlaceLaws.{factors-end, pre-end, pre-fits, region-fits}
 use Rattle.real_to_normal.proofs.OrderLaws.{order-is, order-kept}
-use native.Mathlib.Omega.{arith}
 use borrow.Author.Needs.{needs}
 use Rattle.real_to_normal.proofs.order.order_constants.Statement.{statement}
 use Rattle.real_to_normal.proofs.order.order_constants.Tie as tie
@@ -67,7 +63,9 @@ pick-q-requires-3 : tie.Need-pick-q-requires-3
 pick-q-requires-3 c κs = search needs
 
 pre-phase-factors-requires : tie.Need-pre-phase-factors-requires
-pre-phase-factors-requires c κs = search needs
+pre-phase-factors-requires c κs =
+    let start = c .before .before .before .before .before .before .before .before .before .before .before .before .before .before .before in
+    (pre-fits (start .args .np) (start .args .ns) (start .pre .0 .5), start .pre .0 .6)
 
 real-to-reciprocal-requires : tie.Need-real-to-reciprocal-requires
 real-to-reciprocal-requires c κs =
@@ -75,15 +73,17 @@ real-to-reciprocal-requires c κs =
     let legs = wrote .before .before .before .before .before .before .before .before in
     let start = legs .before .before .before .before .before .before .before .before in
     let p = start .pre in
-    let n : ℕ = 2 * (start .args .np * start .args .ns) in
-    let size = wrote .pre-phase-factors .ensures .size in
-    let g2 = legs .leg-at3 .ensures in
-    let g1 = legs .before .leg-at2 .ensures in
-    let g0 = legs .before .before .leg-at .ensures in
-    let r0 = row-le n (p .0 .2) in
-    let r1 = row-le n (p .0 .3) in
-    let r2 = row-le n (p .0 .4) in
-    (p .0 .0, p .0 .1, p .0 .7, omega arith, omega (arith, g0, r0), omega (arith, g1, r1), omega (arith, g2, r2), omega (arith, size, p .0 .5))
+    let np = start .args .np in
+    let ns = start .args .ns in (
+      p .0 .0,
+      p .0 .1,
+      p .0 .7,
+      pre-end np ns,
+      factors-end np ns (p .0 .2) (legs .before .before .leg-at .ensures),
+      factors-end np ns (p .0 .3) (legs .before .leg-at2 .ensures),
+      factors-end np ns (p .0 .4) (legs .leg-at3 .ensures),
+      region-fits np ns (wrote .pre-phase-factors .ensures .size) (p .0 .5),
+    )
 
 same-length : tie.Need-same-length
 same-length c = search needs
@@ -105,10 +105,9 @@ returns c =
     let h0 = legs .before .before .leg-at .ensures in
     let h1 = legs .before .leg-at2 .ensures in
     let h2 = legs .leg-at3 .ensures in
-    let r = done .real-to-reciprocal .ensures in
-    let k = kept-wider (constantsAt (a .np) (a .ns)) (scratchAt (a .np) (a .ns)) (omega arith) (omega arith) (r .1) in (
-      order-is (a .np) (a .ns) (a .anchoring) forces (a .vectors .now) (a .multiplicity .now) q (a .x0) (a .x1) (a .x2) (p .0 .2) (p .0 .3) (p .0 .4) e0 e1 e2 (p .1) (wrote .pre-phase-factors .ensures) h0 h1 h2 (r .0) k,
-      order-kept (a .np) (a .ns) (a .anchoring) forces (a .vectors .now) (a .multiplicity .now) q (a .x0) (a .x1) (a .x2) (p .0 .2) (p .0 .3) (p .0 .4) e0 e1 e2 (p .1) (wrote .pre-phase-factors .ensures) h0 h1 h2 (r .0) k,
+    let r = done .real-to-reciprocal .ensures in (
+      order-is (a .np) (a .ns) (a .anchoring) forces (a .vectors .now) (a .multiplicity .now) q (a .x0) (a .x1) (a .x2) (p .0 .2) (p .0 .3) (p .0 .4) e0 e1 e2 (p .1) (wrote .pre-phase-factors .ensures) h0 h1 h2 (r .0) (r .1),
+      order-kept (a .np) (a .ns) (a .anchoring) forces (a .vectors .now) (a .multiplicity .now) q (a .x0) (a .x1) (a .x2) (p .0 .2) (p .0 .3) (p .0 .4) e0 e1 e2 (p .1) (wrote .pre-phase-factors .ensures) h0 h1 h2 (r .0) (r .1),
     )
 
 pub order-constants-spec : {M : Type 1} → statement M

@@ -1,9 +1,9 @@
 -- The order 0, 1, 2, and the slots from the columns that were prepared.
 use Prim.Native.Nat.{ℕ}
 use Rattle.phonon.specs.Sets.{Legs}
-use Rattle.planes.proofs.RegionLaws.{kept-then, kept-wider}
+use Rattle.real_to_normal.specs.Work.{constantsAt}
+use Rattle.real_to_normal.proofs.PlaceLaws.{few, same-le, first, second, third, columns-end, columns-pre, constants-end, constants-fit, scratch-fits, kept-scratch}
 use Rattle.real_to_normal.proofs.SlotLaws.{plain-is}
-use native.Mathlib.Omega.{arith}
 use borrow.Author.Needs.{needs}
 use Rattle.real_to_normal.proofs.plain.real_to_normal.Statement.{statement}
 use Rattle.real_to_normal.proofs.plain.real_to_normal.Tie as tie
@@ -81,7 +81,7 @@ order-constants-requires : tie.Need-order-constants-requires
 order-constants-requires c κs =
     let start = c .before .before .before .before .before .before .before .before .before .before .before .before .before .before .before in
     let p = start .pre in
-    ((p .0 .1, p .0 .2, omega arith, omega arith, omega arith, omega (arith, p .0 .3), p .0 .4, p .0 .5), p .1 .0)
+    ((p .0 .1, p .0 .2, first, second, third, constants-fit (start .args .np) (start .args .ns) (p .0 .3), p .0 .4, p .0 .5), p .1 .0)
 
 reciprocal-to-normal-squared-requires : tie.Need-reciprocal-to-normal-squared-requires
 reciprocal-to-normal-squared-requires c κs =
@@ -89,13 +89,21 @@ reciprocal-to-normal-squared-requires c κs =
     let freq = order .before .before in
     let legs = freq .before .before .before in
     let start = legs .before .before .before .before .before .before .before .before .before .before .before in
-    let a = start .args in
-    let p = start .pre in
-    let size = order .order-constants .ensures .1 .size in
-    let e2 = legs .leg-at3 .ensures in
-    let e1 = legs .before .leg-at2 .ensures in
-    let e0 = legs .before .before .leg-at .ensures in
-    ((p .0 .0, omega (arith, p .0 .1), p .1 .1 .3, p .1 .1 .4), ((omega (arith, freq .before .before .leg-frequencies .ensures .1), omega (arith, freq .before .leg-frequencies2 .ensures .1), omega (arith, freq .leg-frequencies3 .ensures .1), p .1 .1 .5), (omega arith, omega (arith, e0), omega (arith, e1), omega (arith, e2), omega (arith, size, p .0 .3))))
+    let np = start .args .np in
+    let ns = start .args .ns in
+    let p = start .pre in (
+      (p .0 .0, few (p .0 .1), p .1 .1 .3, p .1 .1 .4),
+      (
+        (same-le (freq .before .before .leg-frequencies .ensures .1), same-le (freq .before .leg-frequencies2 .ensures .1), same-le (freq .leg-frequencies3 .ensures .1), p .1 .1 .5),
+        (
+          constants-end np ns,
+          columns-end np ns first (legs .before .before .leg-at .ensures),
+          columns-end np ns second (legs .before .leg-at2 .ensures),
+          columns-end np ns third (legs .leg-at3 .ensures),
+          scratch-fits np ns (order .order-constants .ensures .1 .size) (p .0 .3),
+        ),
+      ),
+    )
 
 same-length : tie.Need-same-length
 same-length c = search needs
@@ -115,9 +123,9 @@ returns c =
     let g : Legs ℕ = record { leg0 = a .g0; leg1 = a .g1; leg2 = a .g2 } in
     let o = order .order-constants .ensures in
     let r = done .reciprocal-to-normal-squared .ensures in (
-      plain-is (a .np) (a .ns) (a .frequencies .now) g (o .1) (omega arith) (a .bands .now) (a .flags .now) (a .out .now) _ (a .cutoff) _ (p .0 .0) (p .1 .1 .5) (o .0)
+      plain-is (a .np) (a .ns) (a .frequencies .now) g (o .1) (columns-pre (a .np) (a .ns)) (a .bands .now) (a .flags .now) (a .out .now) _ (a .cutoff) (constantsAt (a .np) (a .ns)) (p .0 .0) (p .1 .1 .5) (o .0)
           (legs .before .before .leg-at .ensures) (legs .before .leg-at2 .ensures) (legs .leg-at3 .ensures) (freq .before .before .leg-frequencies .ensures .0) (freq .before .leg-frequencies2 .ensures .0) (freq .leg-frequencies3 .ensures .0) (r .0),
-      kept-then (kept-wider _ _ (omega arith) (omega arith) (o .1)) (kept-wider _ _ (omega arith) (omega arith) (r .1)),
+      kept-scratch (a .np) (a .ns) (o .1) (r .1),
     )
 
 pub real-to-normal-spec : {M : Type 1} → statement M

@@ -1,11 +1,10 @@
 -- The full listing of one order, and a sixth of it gathered into the slots.
-use Prim.Native.Nat.{ℕ, _*_}
+use Prim.Native.Nat.{ℕ}
 use Rattle.phonon.specs.Sets.{Legs}
-use Rattle.planes.proofs.RegionLaws.{kept-then, kept-wider}
-use Rattle.planes.proofs.Products.{row-le}
 use Rattle.reciprocal_to_normal.proofs.ListingLaws.{kept-above}
+use Rattle.real_to_normal.specs.Work.{constantsAt, scratchAt, listingAt}
+use Rattle.real_to_normal.proofs.PlaceLaws.{few, same-le, columns-end, columns-pre, constants-end, scratch-end, constants-fit, listing-fits, kept-listing}
 use Rattle.real_to_normal.proofs.SlotLaws.{order-gathered}
-use native.Mathlib.Omega.{arith}
 use borrow.Author.Needs.{needs}
 use Rattle.real_to_normal.proofs.symmetrized.add_order.Statement.{statement}
 use Rattle.real_to_normal.proofs.symmetrized.add_order.Tie as tie
@@ -92,10 +91,14 @@ leg-at-requires-3 : tie.Need-leg-at-requires-3
 leg-at-requires-3 c κs = search needs
 
 frequencies-of-requires : tie.Need-frequencies-of-requires
-frequencies-of-requires c κs = search needs
+frequencies-of-requires c κs =
+    let p = c .before .before .before .before .before .before .before .before .before .before .before .pre in
+    (p .1 .1 .0, p .1 .1 .1, p .1 .1 .2)
 
 frequencies-of-requires-2 : tie.Need-frequencies-of-requires-2
-frequencies-of-requires-2 c κs = search needs
+frequencies-of-requires-2 c κs =
+    let p = c .before .before .before .before .before .before .before .before .before .before .before .before .pre in
+    (p .1 .1 .0, p .1 .1 .1, p .1 .1 .2)
 
 frequencies-of-requires-3 : tie.Need-frequencies-of-requires-3
 frequencies-of-requires-3 c κs =
@@ -104,8 +107,9 @@ frequencies-of-requires-3 c κs =
 
 order-constants-requires : tie.Need-order-constants-requires
 order-constants-requires c κs =
-    let p = c .before .before .before .before .before .before .before .before .before .before .before .before .before .before .before .pre in
-    ((p .0 .1, p .0 .2, p .1 .1 .6, p .1 .1 .7, p .1 .1 .8, omega (arith, p .0 .3), p .0 .4, p .0 .5), p .1 .0)
+    let start = c .before .before .before .before .before .before .before .before .before .before .before .before .before .before .before in
+    let p = start .pre in
+    ((p .0 .1, p .0 .2, p .1 .1 .6, p .1 .1 .7, p .1 .1 .8, constants-fit (start .args .np) (start .args .ns) (p .0 .3), p .0 .4, p .0 .5), p .1 .0)
 
 full-strengths-requires : tie.Need-full-strengths-requires
 full-strengths-requires c κs =
@@ -113,15 +117,18 @@ full-strengths-requires c κs =
     let freq = order .before .before in
     let legs = freq .before .before .before in
     let start = legs .before .before .before .before .before .before .before .before .before .before .before in
-    let a = start .args in
-    let p = start .pre in
-    let size = order .order-constants .ensures .1 .size in
-    let d : ℕ = 2 * (3 * a .np * (3 * a .np)) in
-    let e0 = legs .before .before .leg-at .ensures in
-    let e1 = legs .before .leg-at2 .ensures in
-    let e2 = legs .leg-at3 .ensures in (
-      (p .0 .0, omega (arith, p .0 .1), omega (arith, freq .before .before .frequencies-of .ensures .1), omega (arith, freq .before .frequencies-of2 .ensures .1), omega (arith, freq .frequencies-of3 .ensures .1)),
-      (omega arith, omega (arith, e0, row-le d (p .1 .1 .6)), omega (arith, e1, row-le d (p .1 .1 .7)), omega (arith, e2, row-le d (p .1 .1 .8)), omega arith, omega (arith, size, p .0 .3)),
+    let np = start .args .np in
+    let ns = start .args .ns in
+    let p = start .pre in (
+      (p .0 .0, few (p .0 .1), same-le (freq .before .before .frequencies-of .ensures .1), same-le (freq .before .frequencies-of2 .ensures .1), same-le (freq .frequencies-of3 .ensures .1)),
+      (
+        constants-end np ns,
+        columns-end np ns (p .1 .1 .6) (legs .before .before .leg-at .ensures),
+        columns-end np ns (p .1 .1 .7) (legs .before .leg-at2 .ensures),
+        columns-end np ns (p .1 .1 .8) (legs .leg-at3 .ensures),
+        scratch-end np ns,
+        listing-fits np ns (order .order-constants .ensures .1 .size) (p .0 .3),
+      ),
     )
 
 gather-sixth-requires : tie.Need-gather-sixth-requires
@@ -129,8 +136,10 @@ gather-sixth-requires c κs =
     let full = c .before .before .before .before in
     let order = full .before .before .before .before in
     let start = order .before .before .before .before .before .before .before .before .before .before .before .before .before .before .before .before in
+    let np = start .args .np in
+    let ns = start .args .ns in
     let p = start .pre in
-    ((p .0 .0, omega (arith, p .0 .1), p .1 .1 .3, p .1 .1 .4, omega (arith, full .full-strengths .ensures .size, order .order-constants .ensures .1 .size, p .0 .3)), (p .1 .1 .5, p .1 .1 .6, p .1 .1 .7, p .1 .1 .8))
+    ((p .0 .0, few (p .0 .1), p .1 .1 .3, p .1 .1 .4, listing-fits np ns (full .full-strengths .ensures .size) (listing-fits np ns (order .order-constants .ensures .1 .size) (p .0 .3))), (p .1 .1 .5, p .1 .1 .6, p .1 .1 .7, p .1 .1 .8))
 
 same-length : tie.Need-same-length
 same-length c = search needs
@@ -151,9 +160,9 @@ returns c =
     let g : Legs ℕ = record { leg0 = a .g0; leg1 = a .g1; leg2 = a .g2 } in
     let o = order .order-constants .ensures in
     let f = full .full-strengths .ensures in (
-      order-gathered (a .np) (a .ns) (a .frequencies .now) g (o .1) (omega arith) (a .t4) (a .bands .now) (a .flags .now) (a .out .now) _ (a .cutoff) _ _ _ (p .0 .0) (p .1 .1 .5) (o .0) (p .1 .1 .6) (p .1 .1 .7) (p .1 .1 .8)
+      order-gathered (a .np) (a .ns) (a .frequencies .now) g (o .1) (columns-pre (a .np) (a .ns)) (a .t4) (a .bands .now) (a .flags .now) (a .out .now) _ (a .cutoff) (constantsAt (a .np) (a .ns)) (scratchAt (a .np) (a .ns)) (listingAt (a .np) (a .ns)) (p .0 .0) (p .1 .1 .5) (o .0) (p .1 .1 .6) (p .1 .1 .7) (p .1 .1 .8)
           (legs .before .before .leg-at .ensures) (legs .before .leg-at2 .ensures) (legs .leg-at3 .ensures) (freq .before .before .frequencies-of .ensures .0) (freq .before .frequencies-of2 .ensures .0) (freq .frequencies-of3 .ensures .0) f (done .gather-sixth .ensures),
-      kept-then (kept-wider _ _ (omega arith) (omega arith) (o .1)) (kept-wider _ _ (omega arith) (omega arith) (kept-above f)),
+      kept-listing (a .np) (a .ns) (o .1) (kept-above f),
     )
 
 pub add-order-spec : {M : Type 1} → statement M

@@ -3,17 +3,17 @@ use Prim.Native.Nat.{ℕ}
 use mathlib.Core.List.{List}
 use lib.Ieee.{Float}
 use Rattle.phonon.specs.Sets.{Legs, Forces}
-use Rattle.planes.proofs.RegionLaws.{kept-then, kept-wider}
+use Rattle.real_to_normal.proofs.PlaceLaws.{few, legs-fit, listing-fits, kept-legs}
 use Rattle.real_to_normal.proofs.TripletLaws.{off-values, six-values}
-use native.Mathlib.Omega.{arith}
 use borrow.Author.Needs.{needs}
 use Rattle.real_to_normal.proofs.triplet.slots_of.Statement.{statement}
 use Rattle.real_to_normal.proofs.triplet.slots_of.Tie as tie
 
 prepare-requires : tie.Need-prepare-requires
 prepare-requires c κs =
-    let p = c .before .before .before .before .before .before .before .before .before .before .before .pre in
-    ((omega (arith, p .0 .1), omega (arith, p .0 .2), omega (arith, p .0 .3), p .1 .0 .0, p .0 .5), (p .1 .0 .1, p .1 .0 .2, p .1 .0 .3))
+    let start = c .before .before .before .before .before .before .before .before .before .before .before in
+    let p = start .pre in
+    ((few (p .0 .1), few (p .0 .2), legs-fit (start .args .np) (start .args .ns) (p .0 .3), p .1 .0 .0, p .0 .5), (p .1 .0 .1, p .1 .0 .2, p .1 .0 .3))
 
 enum-told : tie.Need-enum-told
 enum-told c = search needs
@@ -21,8 +21,9 @@ enum-told c = search needs
 real-to-normal-requires : tie.Need-real-to-normal-requires
 real-to-normal-requires c κs =
     let prep = c .before .before .before .before .before .before .prepare .ensures in
-    let p = c .before .before .before .before .before .before .before .before .before .before .before .before .before .before .before .before .before .before .pre in
-    ((p .0 .0, p .0 .1, p .0 .2, omega (arith, prep .1 .size, p .0 .3), p .0 .4, p .0 .6), (prep .0 .factors, p .1 .1))
+    let start = c .before .before .before .before .before .before .before .before .before .before .before .before .before .before .before .before .before .before in
+    let p = start .pre in
+    ((p .0 .0, p .0 .1, p .0 .2, listing-fits (start .args .np) (start .args .ns) (prep .1 .size) (p .0 .3), p .0 .4, p .0 .6), (prep .0 .factors, p .1 .1))
 
 enum-told-2 : tie.Need-enum-told-2
 enum-told-2 c = search needs
@@ -30,8 +31,9 @@ enum-told-2 c = search needs
 real-to-normal-sym-q-requires : tie.Need-real-to-normal-sym-q-requires
 real-to-normal-sym-q-requires c κs =
     let prep = c .before .before .before .before .before .before .prepare .ensures in
-    let p = c .before .before .before .before .before .before .before .before .before .before .before .before .before .before .before .before .before .before .pre in
-    ((p .0 .0, p .0 .1, p .0 .2, omega (arith, prep .1 .size, p .0 .3), p .0 .4, p .0 .6), (prep .0 .factors, p .1 .1))
+    let start = c .before .before .before .before .before .before .before .before .before .before .before .before .before .before .before .before .before .before in
+    let p = start .pre in
+    ((p .0 .0, p .0 .1, p .0 .2, listing-fits (start .args .np) (start .args .ns) (prep .1 .size) (p .0 .3), p .0 .4, p .0 .6), (prep .0 .factors, p .1 .1))
 
 same-length : tie.Need-same-length
 same-length c = search needs
@@ -52,7 +54,7 @@ returns c =
     let r = done .real-to-normal .ensures in
     let told = done .before .before .before .enum-told .given .1 in (
       off-values (a .np) (a .ns) (a .masses .now) (a .eigenvectors .now) (a .vectors .now) (a .frequencies .now) (a .multiplicity .now) g q (prep .0) (a .anchoring) forces (a .bands .now) (a .cutoff) (a .flags .now) (a .strengths .now) (p .0 .0) (p .1 .1 .5) (a .symmetry) told (r .0),
-      kept-then (kept-wider 0 _ (omega arith) (omega arith) (prep .1)) (kept-wider 0 _ (omega arith) (omega arith) (r .1)),
+      kept-legs (a .np) (a .ns) (prep .1) (r .1),
     )
 
 same-length-3 : tie.Need-same-length-3
@@ -74,7 +76,7 @@ returns-2 c =
     let r = done .real-to-normal-sym-q .ensures in
     let told = done .before .before .before .enum-told2 .given .1 in (
       six-values (a .np) (a .ns) (a .masses .now) (a .eigenvectors .now) (a .vectors .now) (a .frequencies .now) (a .multiplicity .now) g q (prep .0) (a .anchoring) forces (a .bands .now) (a .cutoff) (a .flags .now) (a .strengths .now) (p .0 .0) (p .1 .1 .5) (a .symmetry) told (r .0),
-      kept-then (kept-wider 0 _ (omega arith) (omega arith) (prep .1)) (kept-wider 0 _ (omega arith) (omega arith) (r .1)),
+      kept-legs (a .np) (a .ns) (prep .1) (r .1),
     )
 
 pub slots-of-spec : {M : Type 1} → statement M

@@ -1,13 +1,12 @@
 -- An accepted set gives each stage what it needs; the slots are then the definition's, and the work buffer is cleared.
-use mathlib.Core.Path.{_≡_, ap, _∙_}
+use mathlib.Core.Path.{_≡_}
 use native.Mathlib.Omega.{arith}
 use borrow.Author.Needs.{needs, sfits-of}
 use mir.ValLaws.{toZ-ofZ}
 use mir.Syntax.{w64}
 use Rattle.phonon.specs.Number.{index, int}
 use Rattle.phonon.specs.Sets.{TripletSet, ofTriplet}
-use Rattle.phonon.specs.RealToReciprocal.{qAt}
-use Rattle.real_to_normal.proofs.AcceptedLaws.{facts, ranged, anchored, shaped, room, end-fits, address-fits, frequency-fits, eigenvector-fits}
+use Rattle.real_to_normal.proofs.AcceptedLaws.{facts, ranged, anchored, shaped, atoms-few, supercell-few, masses-fit, room, address-fits, frequency-fits, eigenvector-fits}
 use Rattle.real_to_normal.proofs.TripletLaws.{strengths-from, cleared-is}
 use Rattle.real_to_normal.proofs.triplet.work_triplet.Statement.{statement}
 use Rattle.real_to_normal.proofs.triplet.work_triplet.Tie as tie
@@ -88,9 +87,9 @@ slots-of-requires c κs =
     let s = set (start d) in
     let e = start d .pre in
     let f = facts s e in (
-      (f .measured .atoms, omega (arith, f .measured .atoms-most), omega (arith, f .measured .supercell-most), room s e, anchored s e, ranged s e, shaped s e),
+      (f .measured .atoms, atoms-few s e, supercell-few s e, room s e, anchored s e, ranged s e, shaped s e),
       (
-        (omega (arith, f .sized .masses), rw (point0 d) (eigenvector-fits s e 0), rw (point1 d) (eigenvector-fits s e 1), rw (point2 d) (eigenvector-fits s e 2)),
+        (masses-fit s e, rw (point0 d) (eigenvector-fits s e 0), rw (point1 d) (eigenvector-fits s e 1), rw (point2 d) (eigenvector-fits s e 2)),
         (
           rw (point0 d) (frequency-fits s e 0),
           rw (point1 d) (frequency-fits s e 1),
@@ -120,11 +119,9 @@ returns c =
     let e = start d .pre in
     let f = facts s e in
     let r = c .before .before .before .before .before .before .before .before .slots-of .ensures in
-    let q0 = c .before .before .before .before .before .before .before .before .before .before .before .before .before .before .before .before .compute-q-vec .ensures ∙ ap (qAt (s .tables .grid)) (point0 d) in
-    let q1 = c .before .before .before .before .before .before .before .before .before .before .before .before .before .before .before .compute-q-vec2 .ensures ∙ ap (qAt (s .tables .grid)) (point1 d) in
-    let q2 = c .before .before .before .before .before .before .before .before .before .before .before .before .before .before .compute-q-vec3 .ensures ∙ ap (qAt (s .tables .grid)) (point2 d) in (
-      strengths-from (ofTriplet s) (start d .args .strengths .now) _ _ (λ i. record { leg0 = point0 d i; leg1 = point1 d i; leg2 = point2 d i }) (λ i. record { leg0 = q0 i; leg1 = q1 i; leg2 = q2 i }) (f .sized .bands) (r .0),
-      cleared-is _ (start d .args .m) (r .1) (omega (arith, end-fits (start d .args .m .atoms) (start d .args .m .supercell) (f .measured .atoms), d .before .before .before .before .before .before .work-length .ensures)) (d .before .before .before .before .before .before .work-length .ensures) (c .before .before .clear-work .ensures),
+    let q2 = c .before .before .before .before .before .before .before .before .before .before .before .before .before .before in (
+      strengths-from (ofTriplet s) (start d .args .strengths .now) (point0 d) (point1 d) (point2 d) (q2 .before .before .compute-q-vec .ensures) (q2 .before .compute-q-vec2 .ensures) (q2 .compute-q-vec3 .ensures) (f .sized .bands) (r .0),
+      cleared-is (start d .args .m) (f .measured .atoms) (r .1) (d .before .before .before .before .before .before .work-length .ensures) (c .before .before .clear-work .ensures),
     )
 
 pub work-triplet-spec : {M : Type 1} → statement M
