@@ -1,5 +1,4 @@
 -- All blocks: each loop has stored the box of what it came past, in terms of the factors as they were when it began, which lie below the region.
-use borrow.Author.Needs.{needs}
 use mathlib.Core.Path.{_≡_, sym, _∙_}
 use Prim.Native.Nat.{ℕ, _+_, _*_, _-_, _≤_}
 use lib.ListN.{length-replicate}
@@ -42,7 +41,7 @@ below c = record { pre = c .pre .3; leg0 = c .pre .4; leg1 = c .pre .5; leg2 = c
 
 slice-aggregate-first-copies :
     tie.Need-slice-aggregate-first-copies Inv-loop3 μ-loop3 Inv-loop2 μ-loop2 Inv-loop μ-loop
-slice-aggregate-first-copies c = search needs
+slice-aggregate-first-copies c = sym (length-replicate {A = ℕ} 256 0)
 
 first-copies-requires :
     tie.Need-first-copies-requires Inv-loop3 μ-loop3 Inv-loop2 μ-loop2 Inv-loop μ-loop
@@ -52,7 +51,7 @@ first-copies-requires c κs =
 
 slice-aggregate-later-copies :
     tie.Need-slice-aggregate-later-copies Inv-loop3 μ-loop3 Inv-loop2 μ-loop2 Inv-loop μ-loop
-slice-aggregate-later-copies c = search needs
+slice-aggregate-later-copies c = sym (length-replicate {A = ℕ} 256 0)
 
 later-copies-requires :
     tie.Need-later-copies-requires Inv-loop3 μ-loop3 Inv-loop2 μ-loop2 Inv-loop μ-loop
@@ -118,10 +117,10 @@ loop3-again c =
     )
 
 add-j : tie.Need-add-j Inv-loop3 μ-loop3 Inv-loop2 μ-loop2 Inv-loop μ-loop
-add-j c = omega arith
+add-j c = omega (arith, c .before .before .loop2-test .taken, c .before .before .before .before .before .before .before .before .before .before .before .before .before .before .before .before .pre .0)
 
 loop2-less : tie.Need-loop2-less Inv-loop3 μ-loop3 Inv-loop2 μ-loop2 Inv-loop μ-loop
-loop2-less c = omega arith
+loop2-less c = omega (arith, c .before .before .loop2-test .taken)
 
 loop2-again : tie.Need-loop2-again Inv-loop3 μ-loop3 Inv-loop2 μ-loop2 Inv-loop μ-loop
 loop2-again c =
@@ -132,10 +131,10 @@ loop2-again c =
     (omega (arith, pj), turn-j _ _ _ _ _ _ _ (below start) _ _ (c .before .before .before .before .before .loop .i) (head .loop2 .j) (c .before .before .before .before .loop-test .taken) pj (head .loop2 .inv .1) (rw e at (c .before .loop3 .inv .1)))
 
 add-i : tie.Need-add-i Inv-loop3 μ-loop3 Inv-loop2 μ-loop2 Inv-loop μ-loop
-add-i c = omega arith
+add-i c = omega (arith, c .before .before .loop-test .taken, c .before .before .before .before .before .before .before .before .before .before .before .before .before .before .pre .0)
 
 loop-less : tie.Need-loop-less Inv-loop3 μ-loop3 Inv-loop2 μ-loop2 Inv-loop μ-loop
-loop-less c = omega arith
+loop-less c = omega (arith, c .before .before .loop-test .taken)
 
 loop-again : tie.Need-loop-again Inv-loop3 μ-loop3 Inv-loop2 μ-loop2 Inv-loop μ-loop
 loop-again c =
