@@ -1,7 +1,7 @@
 -- The phases of one entry of the multiplicities, and of one leg.
 use Prim.Native.Nat.{ℕ, zero, suc, _+_, _*_, _<_, _≤_}
 use native.Mathlib.Omega.{arith}
-use mathlib.Core.Bool.{Bool}
+use mathlib.Core.Bool.{Bool, _&&_}
 use mathlib.Core.Path.{_≡_, refl, _∙_}
 use mathlib.Core.List.{List, [], _∷_}
 use lib.IntN.{ℤ, pos}
@@ -10,14 +10,14 @@ use lib.Seq.{length-take-le, getD-take, getD-drop}
 use lib.Ieee.{Float}
 use Rattle.phonon.specs.Number.{index, int}
 use Rattle.phonon.specs.Trig.{inDomain}
-use Rattle.phonon.specs.Tests.{everyBelow}
-use Rattle.phonon.specs.Sets.{part, Legs}
-use Rattle.phonon.specs.RealToReciprocal.{phase, prePhase, anchorVector}
+use Rattle.phonon.specs.Tests.{everyBelow, allTrue, allTrueAfter}
+use Rattle.phonon.specs.Sets.{part, Grid, Legs}
+use Rattle.phonon.specs.RealToReciprocal.{qAt, phase, prePhase, anchorVector}
 use Rattle.phonon.specs.declared.Symmetry.{Symmetry}
 use Rattle.phonon.specs.declared.Symmetry.the-variants.{Off, Symmetrized}
 use Rattle.phonon.specs.Interaction.{orders, leg, exchanged, orderCount}
 use Rattle.real_to_reciprocal.specs.Shape.{Anchored}
-use Rattle.refusals.specs.Phases.{legPhasesFor, prePhasesFor, ordersFor, Anchors, Located}
+use Rattle.refusals.specs.Phases.{legPhasesFor, prePhasesFor, ordersFor, phasesFor, legsAt, Anchors, Located}
 
 module _ (q vectors : List Float) where
   -- vector i of those from `start` on
@@ -105,3 +105,13 @@ part-located {m} {triplets} {addresses} t h l =
 
 pub anchored : {P S : ℕ} {vectors : List Float} {multiplicity p2s : List ℤ} → Anchors P S vectors multiplicity p2s → Anchored vectors multiplicity p2s P
 anchored {S = S} h = record { supercell = S; some = h .some; atoms = h .atoms; anchors = h .anchors; ranged = h .ranged }
+
+-- the tests of the three legs and of their orders, at the q of their points
+pub phases-told : (P S : ℕ) (symmetry : Symmetry) (vectors : List Float) (multiplicity p2s : List ℤ) (w : Grid) (points : List ℤ) {a b d o : Bool} {q0 q1 q2 : List Float} {g0 g1 g2 : ℕ}
+    → g0 ≡ index (int points 0) → g1 ≡ index (int points 1) → g2 ≡ index (int points 2)
+    → q0 ≡ qAt w g0 → q1 ≡ qAt w g1 → q2 ≡ qAt w g2
+    → a ≡ legPhasesFor vectors multiplicity (S * P) q0 → b ≡ legPhasesFor vectors multiplicity (S * P) q1 → d ≡ legPhasesFor vectors multiplicity (S * P) q2
+    → o ≡ ordersFor P symmetry vectors multiplicity p2s (record { leg0 = q0; leg1 = q1; leg2 = q2 })
+    → ((a && b) && d) && o ≡ phasesFor P S symmetry vectors multiplicity p2s (legsAt w points)
+unfolding phasesFor allTrue allTrueAfter
+phases-told P S symmetry vectors multiplicity p2s w points i0 i1 i2 e0 e1 e2 l0 l1 l2 r = rw (l0, l1, l2, r, e0, e1, e2, i0, i1, i2) refl

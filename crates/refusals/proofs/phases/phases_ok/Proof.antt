@@ -1,9 +1,6 @@
 -- Each call told one of the tests, at the q of one leg.
 use native.Mathlib.Omega.{arith}
-use mathlib.Core.Path.{refl}
-use Rattle.phonon.specs.Tests.{allTrue, allTrueAfter}
-use Rattle.refusals.specs.Phases.{phasesFor}
-use Rattle.refusals.proofs.PhaseLaws.{anchored}
+use Rattle.refusals.proofs.PhaseLaws.{anchored, phases-told}
 use borrow.Author.Needs.{needs}
 use Rattle.refusals.proofs.phases.phases_ok.Statement.{statement}
 use Rattle.refusals.proofs.phases.phases_ok.Tie as tie
@@ -42,22 +39,20 @@ orders-ok-requires : tie.Need-orders-ok-requires
 orders-ok-requires c κs = anchored (c .before .before .before .before .before .before .before .before .before .before .before .before .before .pre .1)
 
 returns : tie.Need-returns
-unfolding phasesFor allTrue allTrueAfter
 returns c =
     let b = c .before .before .before .before .before .before .before in
-    rw (
-      c .before .before .before .before .before .leg-phases-ok .ensures,
-      c .before .before .before .leg-phases-ok2 .ensures,
-      c .before .leg-phases-ok3 .ensures,
-      c .orders-ok .ensures,
-      b .before .before .before .before .compute-q-vec .ensures,
-      b .before .before .compute-q-vec2 .ensures,
-      b .compute-q-vec3 .ensures,
-      b .before .before .before .before .before .index-at .ensures,
-      b .before .before .before .index-at2 .ensures,
-      b .before .index-at3 .ensures,
-    )
-    refl
+    let a = b .before .before .before .before .before .before .before .args in
+    phases-told _ _ _ _ _ _ (record { mesh = a .mesh; matrix = a .matrix; addresses = a .addresses .now }) (a .points .now)
+    (b .before .before .before .before .before .index-at .ensures)
+    (b .before .before .before .index-at2 .ensures)
+    (b .before .index-at3 .ensures)
+    (b .before .before .before .before .compute-q-vec .ensures)
+    (b .before .before .compute-q-vec2 .ensures)
+    (b .compute-q-vec3 .ensures)
+    (c .before .before .before .before .before .leg-phases-ok .ensures)
+    (c .before .before .before .leg-phases-ok2 .ensures)
+    (c .before .leg-phases-ok3 .ensures)
+    (c .orders-ok .ensures)
 
 pub phases-ok-spec : {M : Type 1} → statement M
 phases-ok-spec =
