@@ -26,8 +26,16 @@ fn set_text(
     work: &mut [f64],
     text: &mut [u8],
 ) -> usize
-    requires { ⌜ Fitted h (length (now floats)) × (length (now ints) ≡ length (now floats)) × (length (now bytes) ≡ length (now floats)) × (now strengths ≡ zeros (slots (h .measures))) × (now totals ≡ zeros (h .measures .first)) × (now work ≡ zeros 6144) × (25039 ≤ length (now text)) ⌝ }
-    ensures { λ r. ⌜ Wrote (now (text .entry)) 0 (setText (startOf (record { floats = now (floats .entry); ints = now (ints .entry); bytes = now (bytes .entry) }) h)) (now (text .exit)) r ⌝ }
+    requires { ⌜ Fitted h (length (now floats))
+        × (length (now ints) ≡ length (now floats))
+        × (length (now bytes) ≡ length (now floats))
+        × (now strengths ≡ zeros (slots (h .measures)))
+        × (now totals ≡ zeros (h .measures .first))
+        × (now work ≡ zeros 6144)
+        × (25039 ≤ length (now text)) ⌝ }
+    ensures { λ r. ⌜ Wrote (now (text .entry)) 0
+        (setText (startOf (record { floats = now (floats .entry); ints = now (ints .entry); bytes = now (bytes .entry) }) h))
+        (now (text .exit)) r ⌝ }
 {
     let answer = run_door(h, floats, ints, bytes, strengths, totals, work);
     match answer {
@@ -61,7 +69,14 @@ fn words_text(
     work: &mut [f64],
     text: &mut [u8],
 ) -> usize
-    requires { ⌜ Fitted h (length (now words)) × (length (now floats) ≡ length (now words)) × (length (now ints) ≡ length (now words)) × (length (now bytes) ≡ length (now words)) × (now strengths ≡ zeros (slots (h .measures))) × (now totals ≡ zeros (h .measures .first)) × (now work ≡ zeros 6144) × (25039 ≤ length (now text)) ⌝ }
+    requires { ⌜ Fitted h (length (now words))
+        × (length (now floats) ≡ length (now words))
+        × (length (now ints) ≡ length (now words))
+        × (length (now bytes) ≡ length (now words))
+        × (now strengths ≡ zeros (slots (h .measures)))
+        × (now totals ≡ zeros (h .measures .first))
+        × (now work ≡ zeros 6144)
+        × (25039 ≤ length (now text)) ⌝ }
     ensures { λ r. ⌜ Wrote (now (text .entry)) 0 (setText (startOf (columnsOf (now (words .entry))) h)) (now (text .exit)) r ⌝ }
 {
     carton::read_floats(words, floats);
@@ -133,7 +148,10 @@ fn heading_text(h: Heading, words: &[u64], text: &mut [u8]) -> usize
 
 // The text of a file whose size and blocks are right; words has a place for each of its words.
 fn blocks_text(input: &[u8], words: &mut [u64], text: &mut [u8]) -> usize
-    requires { ⌜ (sizeOk (now input) ≡ true) × (blocksOk (now input) ≡ true) × (length (now words) ≡ 63 * (length (now input) / 512)) × (25039 ≤ length (now text)) ⌝ }
+    requires { ⌜ (sizeOk (now input) ≡ true)
+        × (blocksOk (now input) ≡ true)
+        × (length (now words) ≡ 63 * (length (now input) / 512))
+        × (25039 ≤ length (now text)) ⌝ }
     ensures { λ r. ⌜ Wrote (now (text .entry)) 0 (answerText (now (input .entry))) (now (text .exit)) r ⌝ }
 {
     carton::read_words(input, words);

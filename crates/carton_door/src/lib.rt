@@ -45,7 +45,11 @@ pub fn run_door(
     work: &mut [f64],
 ) -> Answer
     requires { ⌜ Fitted h (length (now floats)) × (length (now ints) ≡ length (now floats)) × (length (now bytes) ≡ length (now floats)) ⌝ }
-    ensures { λ r. ⌜ _≡_ {A = JoinedOutcome} (record { answer = r; strengths = now (strengths .exit); totals = now (totals .exit); work = now (work .exit) }) (joinedOutcome (setIn (record { floats = now (floats .entry); ints = now (ints .entry); bytes = now (bytes .entry) }) h (now (strengths .entry)) (now (totals .entry)) (now (work .entry)))) ⌝ }
+    ensures { λ r. ⌜ _≡_ {A = JoinedOutcome}
+        (record { answer = r; strengths = now (strengths .exit); totals = now (totals .exit); work = now (work .exit) })
+        (joinedOutcome
+        (setIn (record { floats = now (floats .entry); ints = now (ints .entry); bytes = now (bytes .entry) }) h
+        (now (strengths .entry)) (now (totals .entry)) (now (work .entry)))) ⌝ }
 {
     let m = h.measures;
     let form = h.form;

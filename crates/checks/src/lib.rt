@@ -203,7 +203,8 @@ fn vector_range(vectors: usize, count: i64, start: i64) -> bool
 // The number of the first entry whose range lies outside the vectors, or rows * columns where none does.
 pub fn first_bad_range(table: &[i64], rows: usize, columns: usize, vectors: usize) -> usize
     requires { ⌜ length (now table) ≡ 2 * (rows * columns) ⌝ }
-    ensures { λ r. ⌜ r ≡ firstFrom (λ n. vectorRange vectors (int (now (table .entry)) (2 * n)) (int (now (table .entry)) (2 * n + 1))) (rows * columns) 0 ⌝ }
+    ensures { λ r. ⌜ r ≡ firstFrom
+        (λ n. vectorRange vectors (int (now (table .entry)) (2 * n)) (int (now (table .entry)) (2 * n + 1))) (rows * columns) 0 ⌝ }
 {
     let mut found = rows * columns;
     'rows: for j in 0..rows {

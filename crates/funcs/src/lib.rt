@@ -89,7 +89,8 @@ pub struct Two {
 // a loop is laid out anew in every turn.
 fn exp_series_two(r: f64, s: f64, divisors: &[f64; 18]) -> Two
     requires { ⌜ length (now divisors) ≡ 18 ⌝ }
-    ensures { λ p. ⌜ (p .one ≡ foldl (λ p d. f1 ⊕ p ⊗ (r ⊘ d)) f1 (now (divisors .entry))) × (p .two ≡ foldl (λ p d. f1 ⊕ p ⊗ (s ⊘ d)) f1 (now (divisors .entry))) ⌝ }
+    ensures { λ p. ⌜ (p .one ≡ foldl (λ p d. f1 ⊕ p ⊗ (r ⊘ d)) f1 (now (divisors .entry)))
+        × (p .two ≡ foldl (λ p d. f1 ⊕ p ⊗ (s ⊘ d)) f1 (now (divisors .entry))) ⌝ }
 {
     let mut p = 1.0;
     let mut q = 1.0;

@@ -85,7 +85,20 @@ pub fn check(
     second: &[f64],
     totals: &[f64],
 ) -> Checked
-    ensures { λ r. ⌜ r ≡ checkedFor (3 * m .atoms) (totalsRefusal (record { measures = m; weights = weights; triplet = triplet; frequencies = now (frequencies .entry); cutoff = cutoff; flags = now (flags .entry); strengths = now (strengths .entry); bath = bath; first = now (first .entry); second = now (second .entry); totals = now (totals .entry) })) ⌝ }
+    ensures { λ r. ⌜ r ≡ checkedFor (3 * m .atoms)
+        (totalsRefusal (record {
+          measures = m;
+          weights = weights;
+          triplet = triplet;
+          frequencies = now (frequencies .entry);
+          cutoff = cutoff;
+          flags = now (flags .entry);
+          strengths = now (strengths .entry);
+          bath = bath;
+          first = now (first .entry);
+          second = now (second .entry);
+          totals = now (totals .entry);
+        })) ⌝ }
 {
     let Checked::Bands(bands) = check_measures(m) else {
         return Checked::Fails(1);

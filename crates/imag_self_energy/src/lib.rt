@@ -57,8 +57,21 @@ pub fn write_totals(
     strengths: &[f64],
     totals: &mut [f64],
 )
-    requires { ⌜ Sized weights bands (length (now totals)) (now flags) (now first) (now second) (now strengths) × (index (int triplet 1) * bands + bands ≤ length (now frequencies)) × (index (int triplet 2) * bands + bands ≤ length (now frequencies)) ⌝ }
-    ensures { λ _. ⌜ now (totals .exit) ≡ Ise.totals (length (now (totals .entry))) (record { weights = weights; bands = bands; points = triplet; frequencies = now (frequencies .entry); cutoff = cutoff; flags = now (flags .entry); weight = weight; first = now (first .entry); second = now (second .entry) }) temperature (now (strengths .entry)) ⌝ }
+    requires { ⌜ Sized weights bands (length (now totals)) (now flags) (now first) (now second) (now strengths)
+        × (index (int triplet 1) * bands + bands ≤ length (now frequencies))
+        × (index (int triplet 2) * bands + bands ≤ length (now frequencies)) ⌝ }
+    ensures { λ _. ⌜ now (totals .exit) ≡ Ise.totals (length (now (totals .entry)))
+        (record {
+          weights = weights;
+          bands = bands;
+          points = triplet;
+          frequencies = now (frequencies .entry);
+          cutoff = cutoff;
+          flags = now (flags .entry);
+          weight = weight;
+          first = now (first .entry);
+          second = now (second .entry);
+        }) temperature (now (strengths .entry)) ⌝ }
 {
     let g1 = index_of(triplet[1]);
     let g2 = index_of(triplet[2]);
@@ -131,7 +144,20 @@ pub fn imag_self_energy_at_triplet(
     second: &[f64],
     totals: &mut [f64],
 ) -> Answer
-    ensures { λ r. ⌜ _≡_ {A = TotalsOutcome} (record { answer = r; totals = now (totals .exit) }) (totalsOutcome (record { measures = m; weights = weights; triplet = triplet; frequencies = now (frequencies .entry); cutoff = cutoff; flags = now (flags .entry); strengths = now (strengths .entry); bath = bath; first = now (first .entry); second = now (second .entry); totals = now (totals .entry) })) ⌝ }
+    ensures { λ r. ⌜ _≡_ {A = TotalsOutcome} (record { answer = r; totals = now (totals .exit) })
+        (totalsOutcome (record {
+          measures = m;
+          weights = weights;
+          triplet = triplet;
+          frequencies = now (frequencies .entry);
+          cutoff = cutoff;
+          flags = now (flags .entry);
+          strengths = now (strengths .entry);
+          bath = bath;
+          first = now (first .entry);
+          second = now (second .entry);
+          totals = now (totals .entry);
+        })) ⌝ }
 {
     let checked = check(
         m,

@@ -76,8 +76,15 @@ fn list_unflagged(
     one: &mut [u16],
     two: &mut [u16],
 ) -> Counts
-    requires { ⌜ (area ≤ mostBands * mostBands) × (count ≤ area) × Places area (now pairs) count × (count ≤ length (now one)) × (count ≤ length (now two)) × ((c + 1) * area ≤ length (now flags)) × ((d + 1) * area ≤ length (now flags)) ⌝ }
-    ensures { λ r. ⌜ Listed area (unflaggedWalk area c (now (flags .entry)) (now (pairs .entry)) count) (now (one .exit)) (r .one) × Listed area (unflaggedWalk area d (now (flags .entry)) (now (pairs .entry)) count) (now (two .exit)) (r .two) ⌝ }
+    requires { ⌜ (area ≤ mostBands * mostBands)
+        × (count ≤ area)
+        × Places area (now pairs) count
+        × (count ≤ length (now one))
+        × (count ≤ length (now two))
+        × ((c + 1) * area ≤ length (now flags))
+        × ((d + 1) * area ≤ length (now flags)) ⌝ }
+    ensures { λ r. ⌜ Listed area (unflaggedWalk area c (now (flags .entry)) (now (pairs .entry)) count) (now (one .exit)) (r .one)
+        × Listed area (unflaggedWalk area d (now (flags .entry)) (now (pairs .entry)) count) (now (two .exit)) (r .two) ⌝ }
 {
     let from = c * area;
     let other = d * area;
@@ -129,8 +136,14 @@ fn sum_warm(
     y: &[f64],
     v: &[f64],
 ) -> f64
-    requires { ⌜ Places (length (now v)) (now list) count × (length (now v) ≤ length (now sums)) × (length (now v) ≤ length (now differences)) × (length (now v) ≤ length (now x)) × (length (now v) ≤ length (now y)) ⌝ }
-    ensures { λ r. ⌜ r ≡ fold count f0 (λ i t. t ⊕ warmTerm weight (now (sums .entry)) (now (differences .entry)) (now (x .entry)) (now (y .entry)) (now (v .entry)) (getD (now (list .entry)) i 0)) ⌝ }
+    requires { ⌜ Places (length (now v)) (now list) count
+        × (length (now v) ≤ length (now sums))
+        × (length (now v) ≤ length (now differences))
+        × (length (now v) ≤ length (now x))
+        × (length (now v) ≤ length (now y)) ⌝ }
+    ensures { λ r. ⌜ r ≡ fold count f0
+        (λ i t. t ⊕ warmTerm weight (now (sums .entry)) (now (differences .entry)) (now (x .entry)) (now (y .entry))
+        (now (v .entry)) (getD (now (list .entry)) i 0)) ⌝ }
 {
     let mut total = 0.0;
     for i in 0..count {
@@ -167,8 +180,15 @@ fn sum_listed(
     strengths: &[f64],
     b: usize,
 ) -> f64
-    requires { ⌜ Places area (now list) count × (area ≤ length (now sums)) × (area ≤ length (now differences)) × ((c + 1) * area ≤ length (now first)) × ((c + 1) * area ≤ length (now second)) × ((b + 1) * area ≤ length (now strengths)) ⌝ }
-    ensures { λ r. ⌜ r ≡ fold count f0 (λ i t. t ⊕ placeTerm h (now (sums .entry)) (now (differences .entry)) area c (now (first .entry)) (now (second .entry)) b (now (strengths .entry)) (getD (now (list .entry)) i 0)) ⌝ }
+    requires { ⌜ Places area (now list) count
+        × (area ≤ length (now sums))
+        × (area ≤ length (now differences))
+        × ((c + 1) * area ≤ length (now first))
+        × ((c + 1) * area ≤ length (now second))
+        × ((b + 1) * area ≤ length (now strengths)) ⌝ }
+    ensures { λ r. ⌜ r ≡ fold count f0
+        (λ i t. t ⊕ placeTerm h (now (sums .entry)) (now (differences .entry)) area c (now (first .entry)) (now (second .entry))
+        b (now (strengths .entry)) (getD (now (list .entry)) i 0)) ⌝ }
 {
     let x = part_of(first, c, area);
     let v = part_of(strengths, b, area);
@@ -208,8 +228,16 @@ fn fill_totals(
     two: &mut [u16],
     totals: &mut [f64],
 )
-    requires { ⌜ Sized weights n (length (now totals)) (now flags) (now first) (now second) (now strengths) × (count ≤ n * n) × Places (n * n) (now pairs) count × (n * n ≤ length (now sums)) × (n * n ≤ length (now differences)) × (n * n ≤ length (now one)) × (n * n ≤ length (now two)) ⌝ }
-    ensures { λ _. ⌜ now (totals .exit) ≡ table (length (now (totals .entry))) (λ b. pairTotal h (n * n) count (now (pairs .entry)) (now (flags .entry)) (now (first .entry)) (now (second .entry)) (now (strengths .entry)) (now (sums .entry)) (now (differences .entry)) (block weights b) b) ⌝ }
+    requires { ⌜ Sized weights n (length (now totals)) (now flags) (now first) (now second) (now strengths)
+        × (count ≤ n * n)
+        × Places (n * n) (now pairs) count
+        × (n * n ≤ length (now sums))
+        × (n * n ≤ length (now differences))
+        × (n * n ≤ length (now one))
+        × (n * n ≤ length (now two)) ⌝ }
+    ensures { λ _. ⌜ now (totals .exit) ≡ table (length (now (totals .entry)))
+        (λ b. pairTotal h (n * n) count (now (pairs .entry)) (now (flags .entry)) (now (first .entry)) (now (second .entry))
+        (now (strengths .entry)) (now (sums .entry)) (now (differences .entry)) (block weights b) b) ⌝ }
 {
     let area = n * n;
     let mut b = 0;
@@ -248,6 +276,54 @@ fn fill_totals(
     }
 }
 
+// By lists and factors, for which room is lent: n * n entries of each.
+fn fill_in(
+    h: Shared,
+    weights: Weights,
+    n: usize,
+    seconds: [Band; 24],
+    thirds: [Band; 24],
+    flags: &[u8],
+    first: &[f64],
+    second: &[f64],
+    strengths: &[f64],
+    pairs: &mut [u16],
+    one: &mut [u16],
+    two: &mut [u16],
+    sums: &mut [f64],
+    differences: &mut [f64],
+    totals: &mut [f64],
+)
+    requires { ⌜ Sized weights n (length (now totals)) (now flags) (now first) (now second) (now strengths)
+        × (n * n ≤ length (now pairs))
+        × (n * n ≤ length (now one))
+        × (n * n ≤ length (now two))
+        × (n * n ≤ length (now sums))
+        × (n * n ≤ length (now differences)) ⌝ }
+    ensures { λ _. ⌜ now (totals .exit) ≡ table (length (now (totals .entry)))
+        (λ b. bandTotal h n (block weights b) b seconds thirds (now (flags .entry)) (now (first .entry)) (now (second .entry))
+        (now (strengths .entry))) ⌝ }
+{
+    let count = list_pairs(h.cutoff, n, seconds, thirds, pairs);
+    fill_factors(n, seconds, thirds, sums, differences);
+    fill_totals(
+        h,
+        weights,
+        n,
+        pairs,
+        count,
+        sums,
+        differences,
+        flags,
+        first,
+        second,
+        strengths,
+        one,
+        two,
+        totals,
+    );
+}
+
 // Of at most 12 bands. The lists and factors are cleared when they are made, which of 24 bands would take as long as
 // the sum of a few.
 fn fill_few(
@@ -262,30 +338,32 @@ fn fill_few(
     strengths: &[f64],
     totals: &mut [f64],
 )
-    requires { ⌜ (n ≤ 12) × Sized weights n (length (now totals)) (now flags) (now first) (now second) (now strengths) ⌝ }
-    ensures { λ _. ⌜ now (totals .exit) ≡ table (length (now (totals .entry))) (λ b. bandTotal h n (block weights b) b seconds thirds (now (flags .entry)) (now (first .entry)) (now (second .entry)) (now (strengths .entry))) ⌝ }
+    requires { ⌜ (n ≤ 12)
+        × Sized weights n (length (now totals)) (now flags) (now first) (now second) (now strengths) ⌝ }
+    ensures { λ _. ⌜ now (totals .exit) ≡ table (length (now (totals .entry)))
+        (λ b. bandTotal h n (block weights b) b seconds thirds (now (flags .entry)) (now (first .entry)) (now (second .entry))
+        (now (strengths .entry))) ⌝ }
 {
     let mut pairs: [u16; 144] = [0; 144];
     let mut one: [u16; 144] = [0; 144];
     let mut two: [u16; 144] = [0; 144];
     let mut sums: [f64; 144] = [0.0; 144];
     let mut differences: [f64; 144] = [0.0; 144];
-    let count = list_pairs(h.cutoff, n, seconds, thirds, &mut pairs);
-    fill_factors(n, seconds, thirds, &mut sums, &mut differences);
-    fill_totals(
+    fill_in(
         h,
         weights,
         n,
-        &pairs,
-        count,
-        &sums,
-        &differences,
+        seconds,
+        thirds,
         flags,
         first,
         second,
         strengths,
+        &mut pairs,
         &mut one,
         &mut two,
+        &mut sums,
+        &mut differences,
         totals,
     );
 }
@@ -303,29 +381,30 @@ fn fill_many(
     totals: &mut [f64],
 )
     requires { ⌜ Sized weights n (length (now totals)) (now flags) (now first) (now second) (now strengths) ⌝ }
-    ensures { λ _. ⌜ now (totals .exit) ≡ table (length (now (totals .entry))) (λ b. bandTotal h n (block weights b) b seconds thirds (now (flags .entry)) (now (first .entry)) (now (second .entry)) (now (strengths .entry))) ⌝ }
+    ensures { λ _. ⌜ now (totals .exit) ≡ table (length (now (totals .entry)))
+        (λ b. bandTotal h n (block weights b) b seconds thirds (now (flags .entry)) (now (first .entry)) (now (second .entry))
+        (now (strengths .entry))) ⌝ }
 {
     let mut pairs: [u16; 576] = [0; 576];
     let mut one: [u16; 576] = [0; 576];
     let mut two: [u16; 576] = [0; 576];
     let mut sums: [f64; 576] = [0.0; 576];
     let mut differences: [f64; 576] = [0.0; 576];
-    let count = list_pairs(h.cutoff, n, seconds, thirds, &mut pairs);
-    fill_factors(n, seconds, thirds, &mut sums, &mut differences);
-    fill_totals(
+    fill_in(
         h,
         weights,
         n,
-        &pairs,
-        count,
-        &sums,
-        &differences,
+        seconds,
+        thirds,
         flags,
         first,
         second,
         strengths,
+        &mut pairs,
         &mut one,
         &mut two,
+        &mut sums,
+        &mut differences,
         totals,
     );
 }
@@ -344,7 +423,9 @@ pub fn fill_lists(
     totals: &mut [f64],
 )
     requires { ⌜ Sized weights n (length (now totals)) (now flags) (now first) (now second) (now strengths) ⌝ }
-    ensures { λ _. ⌜ now (totals .exit) ≡ table (length (now (totals .entry))) (λ b. bandTotal h n (block weights b) b seconds thirds (now (flags .entry)) (now (first .entry)) (now (second .entry)) (now (strengths .entry))) ⌝ }
+    ensures { λ _. ⌜ now (totals .exit) ≡ table (length (now (totals .entry)))
+        (λ b. bandTotal h n (block weights b) b seconds thirds (now (flags .entry)) (now (first .entry)) (now (second .entry))
+        (now (strengths .entry))) ⌝ }
 {
     if n <= 12 {
         fill_few(

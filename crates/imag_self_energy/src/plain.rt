@@ -38,7 +38,9 @@ pub fn fill_plain(
     totals: &mut [f64],
 )
     requires { ⌜ Sized weights n (length (now totals)) (now flags) (now first) (now second) (now strengths) ⌝ }
-    ensures { λ _. ⌜ now (totals .exit) ≡ table (length (now (totals .entry))) (λ b. bandTotal h n (block weights b) b seconds thirds (now (flags .entry)) (now (first .entry)) (now (second .entry)) (now (strengths .entry))) ⌝ }
+    ensures { λ _. ⌜ now (totals .exit) ≡ table (length (now (totals .entry)))
+        (λ b. bandTotal h n (block weights b) b seconds thirds (now (flags .entry)) (now (first .entry)) (now (second .entry))
+        (now (strengths .entry))) ⌝ }
 {
     for b in 0..totals.len() {
         let c = block_of(weights, b);

@@ -38,7 +38,35 @@ pub fn get_interaction_at_triplet(
     strengths: &mut [f64],
     work: &mut [f64],
 ) -> Answer
-    ensures { λ r. ⌜ _≡_ {A = StrengthsOutcome} (record { answer = r; strengths = now (strengths .exit); work = now (work .exit) }) (tripletOutcome (record { tables = record { measures = m; settings = settings; symmetry = symmetry; crystal = record { vectors = now (vectors .entry); multiplicity = now (multiplicity .entry); masses = now (masses .entry); forces = record { form = form; p2s = now (p2s .entry); s2p = now (s2p .entry); shortest = now (shortest .entry); nonzero = now (nonzero .entry); constants = now (constants .entry) } }; grid = record { mesh = mesh; matrix = matrix; addresses = now (addresses .entry) }; bands = now (bands .entry); phonons = record { frequencies = now (frequencies .entry); eigenvectors = now (eigenvectors .entry) } }; triplet = triplet; flags = now (flags .entry); strengths = now (strengths .entry); work = now (work .entry) })) ⌝ }
+    ensures { λ r. ⌜ _≡_ {A = StrengthsOutcome}
+        (record { answer = r; strengths = now (strengths .exit); work = now (work .exit) })
+        (tripletOutcome (record {
+          tables = record {
+            measures = m;
+            settings = settings;
+            symmetry = symmetry;
+            crystal = record {
+              vectors = now (vectors .entry);
+              multiplicity = now (multiplicity .entry);
+              masses = now (masses .entry);
+              forces = record {
+                form = form;
+                p2s = now (p2s .entry);
+                s2p = now (s2p .entry);
+                shortest = now (shortest .entry);
+                nonzero = now (nonzero .entry);
+                constants = now (constants .entry);
+              };
+            };
+            grid = record { mesh = mesh; matrix = matrix; addresses = now (addresses .entry) };
+            bands = now (bands .entry);
+            phonons = record { frequencies = now (frequencies .entry); eigenvectors = now (eigenvectors .entry) };
+          };
+          triplet = triplet;
+          flags = now (flags .entry);
+          strengths = now (strengths .entry);
+          work = now (work .entry);
+        })) ⌝ }
 {
     let checked = check_triplet(
         m,

@@ -54,51 +54,63 @@ fn work_list(
     work: &mut [f64],
 )
     requires { ⌜ slots ≡ Sets.slots m ⌝ }
-    requires { ⌜ listRefusal
-        (record {
-          tables = record {
-            measures = m;
-            settings = settings;
-            symmetry = symmetry;
-            crystal = record {
-              vectors = now vectors;
-              multiplicity = now multiplicity;
-              masses = now masses;
-              forces = record { form = form; p2s = now p2s; s2p = now s2p; shortest = now shortest; nonzero = now nonzero; constants = now constants };
-            };
-            grid = record { mesh = mesh; matrix = matrix; addresses = now addresses };
-            bands = now bands;
-            phonons = record { frequencies = now frequencies; eigenvectors = now eigenvectors };
+    requires { ⌜ listRefusal (record {
+      tables = record {
+        measures = m;
+        settings = settings;
+        symmetry = symmetry;
+        crystal = record {
+          vectors = now vectors;
+          multiplicity = now multiplicity;
+          masses = now masses;
+          forces = record {
+            form = form;
+            p2s = now p2s;
+            s2p = now s2p;
+            shortest = now shortest;
+            nonzero = now nonzero;
+            constants = now constants;
           };
-          list = list;
-          triplets = now triplets;
-          flags = now flags;
-          strengths = now strengths;
-          work = now work;
-        })
+        };
+        grid = record { mesh = mesh; matrix = matrix; addresses = now addresses };
+        bands = now bands;
+        phonons = record { frequencies = now frequencies; eigenvectors = now eigenvectors };
+      };
+      list = list;
+      triplets = now triplets;
+      flags = now flags;
+      strengths = now strengths;
+      work = now work;
+    })
         ≡ 0 ⌝ }
-    ensures { λ _. ⌜ (now (strengths .exit) ≡ listStrengths
-        (record {
-          tables = record {
-            measures = m;
-            settings = settings;
-            symmetry = symmetry;
-            crystal = record {
-              vectors = now (vectors .entry);
-              multiplicity = now (multiplicity .entry);
-              masses = now (masses .entry);
-              forces = record { form = form; p2s = now (p2s .entry); s2p = now (s2p .entry); shortest = now (shortest .entry); nonzero = now (nonzero .entry); constants = now (constants .entry) };
-            };
-            grid = record { mesh = mesh; matrix = matrix; addresses = now (addresses .entry) };
-            bands = now (bands .entry);
-            phonons = record { frequencies = now (frequencies .entry); eigenvectors = now (eigenvectors .entry) };
+    ensures { λ _. ⌜ (now (strengths .exit) ≡ listStrengths (record {
+      tables = record {
+        measures = m;
+        settings = settings;
+        symmetry = symmetry;
+        crystal = record {
+          vectors = now (vectors .entry);
+          multiplicity = now (multiplicity .entry);
+          masses = now (masses .entry);
+          forces = record {
+            form = form;
+            p2s = now (p2s .entry);
+            s2p = now (s2p .entry);
+            shortest = now (shortest .entry);
+            nonzero = now (nonzero .entry);
+            constants = now (constants .entry);
           };
-          list = list;
-          triplets = now (triplets .entry);
-          flags = now (flags .entry);
-          strengths = now (strengths .entry);
-          work = now (work .entry);
-        }))
+        };
+        grid = record { mesh = mesh; matrix = matrix; addresses = now (addresses .entry) };
+        bands = now (bands .entry);
+        phonons = record { frequencies = now (frequencies .entry); eigenvectors = now (eigenvectors .entry) };
+      };
+      list = list;
+      triplets = now (triplets .entry);
+      flags = now (flags .entry);
+      strengths = now (strengths .entry);
+      work = now (work .entry);
+    }))
         × (now (work .exit) ≡ cleared m (now (work .entry))) ⌝ }
 {
     for t in 0..list {
@@ -157,7 +169,36 @@ pub fn get_interaction(
     strengths: &mut [f64],
     work: &mut [f64],
 ) -> Answer
-    ensures { λ r. ⌜ _≡_ {A = StrengthsOutcome} (record { answer = r; strengths = now (strengths .exit); work = now (work .exit) }) (listOutcome (record { tables = record { measures = m; settings = settings; symmetry = symmetry; crystal = record { vectors = now (vectors .entry); multiplicity = now (multiplicity .entry); masses = now (masses .entry); forces = record { form = form; p2s = now (p2s .entry); s2p = now (s2p .entry); shortest = now (shortest .entry); nonzero = now (nonzero .entry); constants = now (constants .entry) } }; grid = record { mesh = mesh; matrix = matrix; addresses = now (addresses .entry) }; bands = now (bands .entry); phonons = record { frequencies = now (frequencies .entry); eigenvectors = now (eigenvectors .entry) } }; list = list; triplets = now (triplets .entry); flags = now (flags .entry); strengths = now (strengths .entry); work = now (work .entry) })) ⌝ }
+    ensures { λ r. ⌜ _≡_ {A = StrengthsOutcome}
+        (record { answer = r; strengths = now (strengths .exit); work = now (work .exit) })
+        (listOutcome (record {
+          tables = record {
+            measures = m;
+            settings = settings;
+            symmetry = symmetry;
+            crystal = record {
+              vectors = now (vectors .entry);
+              multiplicity = now (multiplicity .entry);
+              masses = now (masses .entry);
+              forces = record {
+                form = form;
+                p2s = now (p2s .entry);
+                s2p = now (s2p .entry);
+                shortest = now (shortest .entry);
+                nonzero = now (nonzero .entry);
+                constants = now (constants .entry);
+              };
+            };
+            grid = record { mesh = mesh; matrix = matrix; addresses = now (addresses .entry) };
+            bands = now (bands .entry);
+            phonons = record { frequencies = now (frequencies .entry); eigenvectors = now (eigenvectors .entry) };
+          };
+          list = list;
+          triplets = now (triplets .entry);
+          flags = now (flags .entry);
+          strengths = now (strengths .entry);
+          work = now (work .entry);
+        })) ⌝ }
 {
     let checked = check_list(
         m,

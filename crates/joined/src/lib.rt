@@ -44,7 +44,39 @@ pub fn joined_at_triplet(
     totals: &mut [f64],
     work: &mut [f64],
 ) -> Answer
-    ensures { λ r. ⌜ _≡_ {A = JoinedOutcome} (record { answer = r; strengths = now (strengths .exit); totals = now (totals .exit); work = now (work .exit) }) (joinedOutcome (record { tables = record { measures = m; settings = settings; symmetry = symmetry; crystal = record { vectors = now (vectors .entry); multiplicity = now (multiplicity .entry); masses = now (masses .entry); forces = record { form = form; p2s = now (p2s .entry); s2p = now (s2p .entry); shortest = now (shortest .entry); nonzero = now (nonzero .entry); constants = now (constants .entry) } }; grid = record { mesh = mesh; matrix = matrix; addresses = now (addresses .entry) }; bands = now (bands .entry); phonons = record { frequencies = now (frequencies .entry); eigenvectors = now (eigenvectors .entry) } }; triplet = triplet; flags = now (flags .entry); bath = bath; first = now (first .entry); second = now (second .entry); strengths = now (strengths .entry); totals = now (totals .entry); work = now (work .entry) })) ⌝ }
+    ensures { λ r. ⌜ _≡_ {A = JoinedOutcome}
+        (record { answer = r; strengths = now (strengths .exit); totals = now (totals .exit); work = now (work .exit) })
+        (joinedOutcome (record {
+          tables = record {
+            measures = m;
+            settings = settings;
+            symmetry = symmetry;
+            crystal = record {
+              vectors = now (vectors .entry);
+              multiplicity = now (multiplicity .entry);
+              masses = now (masses .entry);
+              forces = record {
+                form = form;
+                p2s = now (p2s .entry);
+                s2p = now (s2p .entry);
+                shortest = now (shortest .entry);
+                nonzero = now (nonzero .entry);
+                constants = now (constants .entry);
+              };
+            };
+            grid = record { mesh = mesh; matrix = matrix; addresses = now (addresses .entry) };
+            bands = now (bands .entry);
+            phonons = record { frequencies = now (frequencies .entry); eigenvectors = now (eigenvectors .entry) };
+          };
+          triplet = triplet;
+          flags = now (flags .entry);
+          bath = bath;
+          first = now (first .entry);
+          second = now (second .entry);
+          strengths = now (strengths .entry);
+          totals = now (totals .entry);
+          work = now (work .entry);
+        })) ⌝ }
 {
     let checked = check_joined(
         m,

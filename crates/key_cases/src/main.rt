@@ -209,7 +209,9 @@ fn run_triplet(
     strengths: &mut [f64],
     work: &mut [f64],
 ) -> Answer
-    ensures { λ r. ⌜ _≡_ {A = StrengthsOutcome} (record { answer = r; strengths = now (strengths .exit); work = now (work .exit) }) (tripletOutcome (Cells.tripletOf c (now (bands .entry)) (now (flags .entry)) (now (strengths .entry)) (now (work .entry)))) ⌝ }
+    ensures { λ r. ⌜ _≡_ {A = StrengthsOutcome}
+        (record { answer = r; strengths = now (strengths .exit); work = now (work .exit) })
+        (tripletOutcome (Cells.tripletOf c (now (bands .entry)) (now (flags .entry)) (now (strengths .entry)) (now (work .entry)))) ⌝ }
 {
     interaction::get_interaction_at_triplet(
         Measures {
@@ -248,7 +250,9 @@ fn run_triplet(
 
 // A list of the triplet twice.
 fn run_list(c: Case, bands: &[i64], flags: &[u8], strengths: &mut [f64], work: &mut [f64]) -> Answer
-    ensures { λ r. ⌜ _≡_ {A = StrengthsOutcome} (record { answer = r; strengths = now (strengths .exit); work = now (work .exit) }) (listOutcome (Cells.listOf c (now (bands .entry)) (now (flags .entry)) (now (strengths .entry)) (now (work .entry)))) ⌝ }
+    ensures { λ r. ⌜ _≡_ {A = StrengthsOutcome}
+        (record { answer = r; strengths = now (strengths .exit); work = now (work .exit) })
+        (listOutcome (Cells.listOf c (now (bands .entry)) (now (flags .entry)) (now (strengths .entry)) (now (work .entry)))) ⌝ }
 {
     interaction::list::get_interaction(
         Measures {
@@ -297,7 +301,11 @@ fn run_joined(
     totals: &mut [f64],
     work: &mut [f64],
 ) -> Answer
-    ensures { λ r. ⌜ _≡_ {A = JoinedOutcome} (record { answer = r; strengths = now (strengths .exit); totals = now (totals .exit); work = now (work .exit) }) (joinedOutcome (Cells.joinedOf c (now (bands .entry)) (now (flags .entry)) (now (first .entry)) (now (second .entry)) (now (strengths .entry)) (now (totals .entry)) (now (work .entry)))) ⌝ }
+    ensures { λ r. ⌜ _≡_ {A = JoinedOutcome}
+        (record { answer = r; strengths = now (strengths .exit); totals = now (totals .exit); work = now (work .exit) })
+        (joinedOutcome
+        (Cells.joinedOf c (now (bands .entry)) (now (flags .entry)) (now (first .entry)) (now (second .entry))
+        (now (strengths .entry)) (now (totals .entry)) (now (work .entry)))) ⌝ }
 {
     joined::joined_at_triplet(
         Measures {
@@ -350,7 +358,10 @@ fn run_totals(
     strengths: &[f64],
     totals: &mut [f64],
 ) -> Answer
-    ensures { λ r. ⌜ _≡_ {A = TotalsOutcome} (record { answer = r; totals = now (totals .exit) }) (totalsOutcome (Cells.totalsOf c (now (flags .entry)) (now (first .entry)) (now (second .entry)) (now (strengths .entry)) (now (totals .entry)))) ⌝ }
+    ensures { λ r. ⌜ _≡_ {A = TotalsOutcome} (record { answer = r; totals = now (totals .exit) })
+        (totalsOutcome
+        (Cells.totalsOf c (now (flags .entry)) (now (first .entry)) (now (second .entry)) (now (strengths .entry))
+        (now (totals .entry)))) ⌝ }
 {
     imag_self_energy::imag_self_energy_at_triplet(
         TotalsMeasures {

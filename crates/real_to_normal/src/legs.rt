@@ -15,8 +15,15 @@ ghost use Rattle.real_to_normal.specs.Work.{columnsAt, factorsAt, preAt,
 
 // The eigenvectors at grid points g0, g1 and g2, scaled by the inverse roots at the start of w.
 fn scale_legs(w: &mut [f64], eigenvectors: &[f64], np: usize, g0: usize, g1: usize, g2: usize)
-    requires { ⌜ (np ≤ 1000) × (columnsAt np 3 ≤ length (now w)) × (2 * ((g0 + 1) * (3 * np * (3 * np))) ≤ length (now eigenvectors)) × (2 * ((g1 + 1) * (3 * np * (3 * np))) ≤ length (now eigenvectors)) × (2 * ((g2 + 1) * (3 * np * (3 * np))) ≤ length (now eigenvectors)) ⌝ }
-    ensures { λ _. ⌜ ((x n : ℕ) → x < 3 → n < 3 * np → columnIn (now (w .exit)) (columnsAt np x) (3 * np) n ≡ column (3 * np) (now (eigenvectors .entry)) (take np (drop 0 (now (w .entry)))) (leg (record { leg0 = g0; leg1 = g1; leg2 = g2 }) x) n)
+    requires { ⌜ (np ≤ 1000)
+        × (columnsAt np 3 ≤ length (now w))
+        × (2 * ((g0 + 1) * (3 * np * (3 * np))) ≤ length (now eigenvectors))
+        × (2 * ((g1 + 1) * (3 * np * (3 * np))) ≤ length (now eigenvectors))
+        × (2 * ((g2 + 1) * (3 * np * (3 * np))) ≤ length (now eigenvectors)) ⌝ }
+    ensures { λ _. ⌜ ((x n : ℕ) → x < 3 → n < 3 * np
+        → columnIn (now (w .exit)) (columnsAt np x) (3 * np) n
+        ≡ column (3 * np) (now (eigenvectors .entry)) (take np (drop 0 (now (w .entry))))
+        (leg (record { leg0 = g0; leg1 = g1; leg2 = g2 }) x) n)
         × Kept (now (w .entry)) (now (w .exit)) np (columnsAt np 3) ⌝ }
 {
     let d = 3 * np * (3 * np);
@@ -39,7 +46,10 @@ fn factor_legs(
     ns: usize,
 )
     requires { ⌜ (np ≤ 1000) × (ns ≤ 1000) × (preAt np ns ≤ length (now w)) × Ranged (now vectors) (now multiplicity) (ns * np) ⌝ }
-    ensures { λ _. ⌜ ((x : ℕ) → x < 3 → numbersIn (now (w .exit)) (factorsAt np ns x) (np * ns) (np * ns) ≡ phaseFactors np ns (now (vectors .entry)) (now (multiplicity .entry)) (leg (record { leg0 = now (q0 .entry); leg1 = now (q1 .entry); leg2 = now (q2 .entry) }) x))
+    ensures { λ _. ⌜ ((x : ℕ) → x < 3
+        → numbersIn (now (w .exit)) (factorsAt np ns x) (np * ns) (np * ns)
+        ≡ phaseFactors np ns (now (vectors .entry)) (now (multiplicity .entry))
+        (leg (record { leg0 = now (q0 .entry); leg1 = now (q1 .entry); leg2 = now (q2 .entry) }) x))
         × Kept (now (w .entry)) (now (w .exit)) (columnsAt np 3) (preAt np ns) ⌝ }
 {
     let d = 3 * np * (3 * np);
@@ -68,9 +78,17 @@ pub fn prepare(
     g1: usize,
     g2: usize,
 )
-    requires { ⌜ (np ≤ 1000) × (ns ≤ 1000) × (preAt np ns ≤ length (now w)) × (np ≤ length (now masses)) × Ranged (now vectors) (now multiplicity) (ns * np) ⌝ }
-    requires { ⌜ (2 * ((g0 + 1) * (3 * np * (3 * np))) ≤ length (now eigenvectors)) × (2 * ((g1 + 1) * (3 * np * (3 * np))) ≤ length (now eigenvectors)) × (2 * ((g2 + 1) * (3 * np * (3 * np))) ≤ length (now eigenvectors)) ⌝ }
-    ensures { λ _. ⌜ Prepared (now (w .exit)) np ns (now (masses .entry)) (now (eigenvectors .entry)) (now (vectors .entry)) (now (multiplicity .entry)) (record { leg0 = g0; leg1 = g1; leg2 = g2 }) (record { leg0 = now (q0 .entry); leg1 = now (q1 .entry); leg2 = now (q2 .entry) })
+    requires { ⌜ (np ≤ 1000)
+        × (ns ≤ 1000)
+        × (preAt np ns ≤ length (now w))
+        × (np ≤ length (now masses))
+        × Ranged (now vectors) (now multiplicity) (ns * np) ⌝ }
+    requires { ⌜ (2 * ((g0 + 1) * (3 * np * (3 * np))) ≤ length (now eigenvectors))
+        × (2 * ((g1 + 1) * (3 * np * (3 * np))) ≤ length (now eigenvectors))
+        × (2 * ((g2 + 1) * (3 * np * (3 * np))) ≤ length (now eigenvectors)) ⌝ }
+    ensures { λ _. ⌜ Prepared (now (w .exit)) np ns (now (masses .entry)) (now (eigenvectors .entry)) (now (vectors .entry))
+        (now (multiplicity .entry)) (record { leg0 = g0; leg1 = g1; leg2 = g2 })
+        (record { leg0 = now (q0 .entry); leg1 = now (q1 .entry); leg2 = now (q2 .entry) })
         × Kept (now (w .entry)) (now (w .exit)) 0 (preAt np ns) ⌝ }
 {
     inverse_roots(w, 0, masses, np);

@@ -61,11 +61,35 @@ pub fn order_constants(
     np: usize,
     ns: usize,
 )
-    requires { ⌜ (np ≤ 256) × (ns ≤ 256) × (x0 < 3) × (x1 < 3) × (x2 < 3) × (scratchAt np ns ≤ length (now w)) × Anchored (now vectors) (now multiplicity) (now p2s) np × Shaped np ns (record { form = form; p2s = now p2s; s2p = now s2p; shortest = now shortest; nonzero = now nonzero; constants = now constants }) ⌝ }
-    requires { ⌜ ((x : ℕ) → x < 3 → numbersIn (now w) (factorsAt np ns x) (np * ns) (np * ns) ≡ phaseFactors np ns (now vectors) (now multiplicity) (leg (record { leg0 = now q0; leg1 = now q1; leg2 = now q2 }) x)) ⌝ }
-    ensures { λ _. ⌜ (constantsIn (now (w .exit)) (constantsAt np ns) np ≡ reciprocalOf np ns anchoring
-        (record { form = form; p2s = now (p2s .entry); s2p = now (s2p .entry); shortest = now (shortest .entry); nonzero = now (nonzero .entry); constants = now (constants .entry) })
-        (now (vectors .entry)) (now (multiplicity .entry)) (picked (record { leg0 = now (q0 .entry); leg1 = now (q1 .entry); leg2 = now (q2 .entry) }) x0 x1 x2))
+    requires { ⌜ (np ≤ 256)
+        × (ns ≤ 256)
+        × (x0 < 3)
+        × (x1 < 3)
+        × (x2 < 3)
+        × (scratchAt np ns ≤ length (now w))
+        × Anchored (now vectors) (now multiplicity) (now p2s) np
+        × Shaped np ns (record {
+          form = form;
+          p2s = now p2s;
+          s2p = now s2p;
+          shortest = now shortest;
+          nonzero = now nonzero;
+          constants = now constants;
+        }) ⌝ }
+    requires { ⌜ ((x : ℕ) → x < 3
+        → numbersIn (now w) (factorsAt np ns x) (np * ns) (np * ns)
+        ≡ phaseFactors np ns (now vectors) (now multiplicity) (leg (record { leg0 = now q0; leg1 = now q1; leg2 = now q2 }) x)) ⌝ }
+    ensures { λ _. ⌜ (constantsIn (now (w .exit)) (constantsAt np ns) np
+        ≡ reciprocalOf np ns anchoring
+        (record {
+          form = form;
+          p2s = now (p2s .entry);
+          s2p = now (s2p .entry);
+          shortest = now (shortest .entry);
+          nonzero = now (nonzero .entry);
+          constants = now (constants .entry);
+        }) (now (vectors .entry)) (now (multiplicity .entry))
+        (picked (record { leg0 = now (q0 .entry); leg1 = now (q1 .entry); leg2 = now (q2 .entry) }) x0 x1 x2))
         × Kept (now (w .entry)) (now (w .exit)) (preAt np ns) (scratchAt np ns) ⌝ }
 {
     let d = 3 * np * (3 * np);

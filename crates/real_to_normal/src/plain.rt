@@ -46,14 +46,43 @@ pub fn real_to_normal(
     ns: usize,
     cutoff: f64,
 )
-    requires { ⌜ (1 ≤ np) × (np ≤ 256) × (ns ≤ 256) × (endAt np ns ≤ length (now w)) × Anchored (now vectors) (now multiplicity) (now p2s) np × Shaped np ns (record { form = form; p2s = now p2s; s2p = now s2p; shortest = now shortest; nonzero = now nonzero; constants = now constants }) ⌝ }
-    requires { ⌜ ((x : ℕ) → x < 3 → numbersIn (now w) (factorsAt np ns x) (np * ns) (np * ns) ≡ phaseFactors np ns (now vectors) (now multiplicity) (leg (record { leg0 = now q0; leg1 = now q1; leg2 = now q2 }) x)) ⌝ }
-    requires { ⌜ ((g0 + 1) * (3 * np) ≤ length (now frequencies)) × ((g1 + 1) * (3 * np) ≤ length (now frequencies)) × ((g2 + 1) * (3 * np) ≤ length (now frequencies))
-        × (length (now out) ≡ length (now bands) * (3 * np) * (3 * np)) × (length (now flags) ≡ length (now bands) * (3 * np) * (3 * np)) × (allWithin (pos 0) (pos (3 * np - 1)) (now bands) ≡ true) ⌝ }
-    ensures { λ _. ⌜ (now (out .exit) ≡ table (length (now (bands .entry)) * (3 * np) * (3 * np)) (λ m. cond (flagged (now (flags .entry)) m) (at (now (out .entry)) m)
-        (strength np (reciprocalOf np ns anchoring (record { form = form; p2s = now (p2s .entry); s2p = now (s2p .entry); shortest = now (shortest .entry); nonzero = now (nonzero .entry); constants = now (constants .entry) })
-        (now (vectors .entry)) (now (multiplicity .entry)) (picked (record { leg0 = now (q0 .entry); leg1 = now (q1 .entry); leg2 = now (q2 .entry) }) 0 1 2))
-        (slotIn (now (w .entry)) np (now (frequencies .entry)) (record { leg0 = g0; leg1 = g1; leg2 = g2 }) (now (bands .entry)) 0 1 2 m) cutoff)))
+    requires { ⌜ (1 ≤ np)
+        × (np ≤ 256)
+        × (ns ≤ 256)
+        × (endAt np ns ≤ length (now w))
+        × Anchored (now vectors) (now multiplicity) (now p2s) np
+        × Shaped np ns (record {
+          form = form;
+          p2s = now p2s;
+          s2p = now s2p;
+          shortest = now shortest;
+          nonzero = now nonzero;
+          constants = now constants;
+        }) ⌝ }
+    requires { ⌜ ((x : ℕ) → x < 3
+        → numbersIn (now w) (factorsAt np ns x) (np * ns) (np * ns)
+        ≡ phaseFactors np ns (now vectors) (now multiplicity) (leg (record { leg0 = now q0; leg1 = now q1; leg2 = now q2 }) x)) ⌝ }
+    requires { ⌜ ((g0 + 1) * (3 * np) ≤ length (now frequencies))
+        × ((g1 + 1) * (3 * np) ≤ length (now frequencies))
+        × ((g2 + 1) * (3 * np) ≤ length (now frequencies))
+        × (length (now out) ≡ length (now bands) * (3 * np) * (3 * np))
+        × (length (now flags) ≡ length (now bands) * (3 * np) * (3 * np))
+        × (allWithin (pos 0) (pos (3 * np - 1)) (now bands) ≡ true) ⌝ }
+    ensures { λ _. ⌜ (now (out .exit) ≡ table (length (now (bands .entry)) * (3 * np) * (3 * np))
+        (λ m. cond (flagged (now (flags .entry)) m) (at (now (out .entry)) m)
+        (strength np
+        (reciprocalOf np ns anchoring
+        (record {
+          form = form;
+          p2s = now (p2s .entry);
+          s2p = now (s2p .entry);
+          shortest = now (shortest .entry);
+          nonzero = now (nonzero .entry);
+          constants = now (constants .entry);
+        }) (now (vectors .entry)) (now (multiplicity .entry))
+        (picked (record { leg0 = now (q0 .entry); leg1 = now (q1 .entry); leg2 = now (q2 .entry) }) 0 1 2))
+        (slotIn (now (w .entry)) np (now (frequencies .entry)) (record { leg0 = g0; leg1 = g1; leg2 = g2 })
+        (now (bands .entry)) 0 1 2 m) cutoff)))
         × Kept (now (w .entry)) (now (w .exit)) (preAt np ns) (endAt np ns) ⌝ }
 {
     let nb = 3 * np;

@@ -46,7 +46,9 @@ fn frequencies_of(
     x: usize,
     nb: usize,
 ) -> &[f64]
-    requires { ⌜ ((g0 + 1) * nb ≤ length (now frequencies)) × ((g1 + 1) * nb ≤ length (now frequencies)) × ((g2 + 1) * nb ≤ length (now frequencies)) ⌝ }
+    requires { ⌜ ((g0 + 1) * nb ≤ length (now frequencies))
+        × ((g1 + 1) * nb ≤ length (now frequencies))
+        × ((g2 + 1) * nb ≤ length (now frequencies)) ⌝ }
     ensures { λ r. ⌜ (now r ≡ part nb (leg (record { leg0 = g0; leg1 = g1; leg2 = g2 }) x) (now (frequencies .entry))) × (length (now r) ≡ nb) ⌝ }
 {
     leg_frequencies(frequencies, pick_point(g0, g1, g2, x), nb)
@@ -80,15 +82,47 @@ fn add_order(
     ns: usize,
     cutoff: f64,
 )
-    requires { ⌜ (1 ≤ np) × (np ≤ 256) × (ns ≤ 256) × (endAt np ns ≤ length (now w)) × Anchored (now vectors) (now multiplicity) (now p2s) np × Shaped np ns (record { form = form; p2s = now p2s; s2p = now s2p; shortest = now shortest; nonzero = now nonzero; constants = now constants }) ⌝ }
-    requires { ⌜ ((x : ℕ) → x < 3 → numbersIn (now w) (factorsAt np ns x) (np * ns) (np * ns) ≡ phaseFactors np ns (now vectors) (now multiplicity) (leg (record { leg0 = now q0; leg1 = now q1; leg2 = now q2 }) x)) ⌝ }
-    requires { ⌜ ((g0 + 1) * (3 * np) ≤ length (now frequencies)) × ((g1 + 1) * (3 * np) ≤ length (now frequencies)) × ((g2 + 1) * (3 * np) ≤ length (now frequencies))
-        × (length (now out) ≡ length (now bands) * (3 * np) * (3 * np)) × (length (now flags) ≡ length (now bands) * (3 * np) * (3 * np)) × (allWithin (pos 0) (pos (3 * np - 1)) (now bands) ≡ true)
-        × (getD order 0 0 < 3) × (getD order 1 0 < 3) × (getD order 2 0 < 3) ⌝ }
-    ensures { λ _. ⌜ (now (out .exit) ≡ table (length (now (bands .entry)) * (3 * np) * (3 * np)) (λ m. cond (flagged (now (flags .entry)) m) (at (now (out .entry)) m)
-        (at (now (out .entry)) m ⊕ strength np (reciprocalOf np ns anchoring (record { form = form; p2s = now (p2s .entry); s2p = now (s2p .entry); shortest = now (shortest .entry); nonzero = now (nonzero .entry); constants = now (constants .entry) })
-        (now (vectors .entry)) (now (multiplicity .entry)) (picked (record { leg0 = now (q0 .entry); leg1 = now (q1 .entry); leg2 = now (q2 .entry) }) (getD order 0 0) (getD order 1 0) (getD order 2 0)))
-        (slotIn (now (w .entry)) np (now (frequencies .entry)) (record { leg0 = g0; leg1 = g1; leg2 = g2 }) (now (bands .entry)) (getD order 0 0) (getD order 1 0) (getD order 2 0) m) cutoff ⊘ f6)))
+    requires { ⌜ (1 ≤ np)
+        × (np ≤ 256)
+        × (ns ≤ 256)
+        × (endAt np ns ≤ length (now w))
+        × Anchored (now vectors) (now multiplicity) (now p2s) np
+        × Shaped np ns (record {
+          form = form;
+          p2s = now p2s;
+          s2p = now s2p;
+          shortest = now shortest;
+          nonzero = now nonzero;
+          constants = now constants;
+        }) ⌝ }
+    requires { ⌜ ((x : ℕ) → x < 3
+        → numbersIn (now w) (factorsAt np ns x) (np * ns) (np * ns)
+        ≡ phaseFactors np ns (now vectors) (now multiplicity) (leg (record { leg0 = now q0; leg1 = now q1; leg2 = now q2 }) x)) ⌝ }
+    requires { ⌜ ((g0 + 1) * (3 * np) ≤ length (now frequencies))
+        × ((g1 + 1) * (3 * np) ≤ length (now frequencies))
+        × ((g2 + 1) * (3 * np) ≤ length (now frequencies))
+        × (length (now out) ≡ length (now bands) * (3 * np) * (3 * np))
+        × (length (now flags) ≡ length (now bands) * (3 * np) * (3 * np))
+        × (allWithin (pos 0) (pos (3 * np - 1)) (now bands) ≡ true)
+        × (getD order 0 0 < 3)
+        × (getD order 1 0 < 3)
+        × (getD order 2 0 < 3) ⌝ }
+    ensures { λ _. ⌜ (now (out .exit) ≡ table (length (now (bands .entry)) * (3 * np) * (3 * np))
+        (λ m. cond (flagged (now (flags .entry)) m) (at (now (out .entry)) m)
+        (at (now (out .entry)) m ⊕ strength np
+        (reciprocalOf np ns anchoring
+        (record {
+          form = form;
+          p2s = now (p2s .entry);
+          s2p = now (s2p .entry);
+          shortest = now (shortest .entry);
+          nonzero = now (nonzero .entry);
+          constants = now (constants .entry);
+        }) (now (vectors .entry)) (now (multiplicity .entry))
+        (picked (record { leg0 = now (q0 .entry); leg1 = now (q1 .entry); leg2 = now (q2 .entry) }) (getD order 0 0)
+        (getD order 1 0) (getD order 2 0)))
+        (slotIn (now (w .entry)) np (now (frequencies .entry)) (record { leg0 = g0; leg1 = g1; leg2 = g2 })
+        (now (bands .entry)) (getD order 0 0) (getD order 1 0) (getD order 2 0) m) cutoff ⊘ f6)))
         × Kept (now (w .entry)) (now (w .exit)) (preAt np ns) (endAt np ns) ⌝ }
 {
     let nb = 3 * np;
@@ -155,13 +189,42 @@ pub fn real_to_normal_sym_q(
     ns: usize,
     cutoff: f64,
 )
-    requires { ⌜ (1 ≤ np) × (np ≤ 256) × (ns ≤ 256) × (endAt np ns ≤ length (now w)) × Anchored (now vectors) (now multiplicity) (now p2s) np × Shaped np ns (record { form = form; p2s = now p2s; s2p = now s2p; shortest = now shortest; nonzero = now nonzero; constants = now constants }) ⌝ }
-    requires { ⌜ ((x : ℕ) → x < 3 → numbersIn (now w) (factorsAt np ns x) (np * ns) (np * ns) ≡ phaseFactors np ns (now vectors) (now multiplicity) (leg (record { leg0 = now q0; leg1 = now q1; leg2 = now q2 }) x)) ⌝ }
-    requires { ⌜ ((g0 + 1) * (3 * np) ≤ length (now frequencies)) × ((g1 + 1) * (3 * np) ≤ length (now frequencies)) × ((g2 + 1) * (3 * np) ≤ length (now frequencies))
-        × (length (now out) ≡ length (now bands) * (3 * np) * (3 * np)) × (length (now flags) ≡ length (now bands) * (3 * np) * (3 * np)) × (allWithin (pos 0) (pos (3 * np - 1)) (now bands) ≡ true) ⌝ }
-    ensures { λ _. ⌜ (now (out .exit) ≡ table (length (now (bands .entry)) * (3 * np) * (3 * np)) (λ m. cond (flagged (now (flags .entry)) m) f0
-        (fold 6 f0 (sixthOf np ns anchoring (record { form = form; p2s = now (p2s .entry); s2p = now (s2p .entry); shortest = now (shortest .entry); nonzero = now (nonzero .entry); constants = now (constants .entry) })
-        (now (vectors .entry)) (now (multiplicity .entry)) (record { leg0 = now (q0 .entry); leg1 = now (q1 .entry); leg2 = now (q2 .entry) }) (now (w .entry)) (now (frequencies .entry)) (record { leg0 = g0; leg1 = g1; leg2 = g2 }) (now (bands .entry)) cutoff m))))
+    requires { ⌜ (1 ≤ np)
+        × (np ≤ 256)
+        × (ns ≤ 256)
+        × (endAt np ns ≤ length (now w))
+        × Anchored (now vectors) (now multiplicity) (now p2s) np
+        × Shaped np ns (record {
+          form = form;
+          p2s = now p2s;
+          s2p = now s2p;
+          shortest = now shortest;
+          nonzero = now nonzero;
+          constants = now constants;
+        }) ⌝ }
+    requires { ⌜ ((x : ℕ) → x < 3
+        → numbersIn (now w) (factorsAt np ns x) (np * ns) (np * ns)
+        ≡ phaseFactors np ns (now vectors) (now multiplicity) (leg (record { leg0 = now q0; leg1 = now q1; leg2 = now q2 }) x)) ⌝ }
+    requires { ⌜ ((g0 + 1) * (3 * np) ≤ length (now frequencies))
+        × ((g1 + 1) * (3 * np) ≤ length (now frequencies))
+        × ((g2 + 1) * (3 * np) ≤ length (now frequencies))
+        × (length (now out) ≡ length (now bands) * (3 * np) * (3 * np))
+        × (length (now flags) ≡ length (now bands) * (3 * np) * (3 * np))
+        × (allWithin (pos 0) (pos (3 * np - 1)) (now bands) ≡ true) ⌝ }
+    ensures { λ _. ⌜ (now (out .exit) ≡ table (length (now (bands .entry)) * (3 * np) * (3 * np))
+        (λ m. cond (flagged (now (flags .entry)) m) f0
+        (fold 6 f0
+        (sixthOf np ns anchoring
+        (record {
+          form = form;
+          p2s = now (p2s .entry);
+          s2p = now (s2p .entry);
+          shortest = now (shortest .entry);
+          nonzero = now (nonzero .entry);
+          constants = now (constants .entry);
+        }) (now (vectors .entry)) (now (multiplicity .entry))
+        (record { leg0 = now (q0 .entry); leg1 = now (q1 .entry); leg2 = now (q2 .entry) }) (now (w .entry))
+        (now (frequencies .entry)) (record { leg0 = g0; leg1 = g1; leg2 = g2 }) (now (bands .entry)) cutoff m))))
         × Kept (now (w .entry)) (now (w .exit)) (preAt np ns) (endAt np ns) ⌝ }
 {
     clear(out);

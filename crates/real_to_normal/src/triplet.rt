@@ -65,12 +65,46 @@ pub fn slots_of(
     ns: usize,
     cutoff: f64,
 )
-    requires { ⌜ (1 ≤ np) × (np ≤ 256) × (ns ≤ 256) × (endAt np ns ≤ length (now work)) × Anchored (now vectors) (now multiplicity) (now p2s) np × Ranged (now vectors) (now multiplicity) (ns * np) × Shaped np ns (record { form = form; p2s = now p2s; s2p = now s2p; shortest = now shortest; nonzero = now nonzero; constants = now constants }) ⌝ }
-    requires { ⌜ (np ≤ length (now masses)) × (2 * ((g0 + 1) * (3 * np * (3 * np))) ≤ length (now eigenvectors)) × (2 * ((g1 + 1) * (3 * np * (3 * np))) ≤ length (now eigenvectors)) × (2 * ((g2 + 1) * (3 * np * (3 * np))) ≤ length (now eigenvectors)) ⌝ }
-    requires { ⌜ ((g0 + 1) * (3 * np) ≤ length (now frequencies)) × ((g1 + 1) * (3 * np) ≤ length (now frequencies)) × ((g2 + 1) * (3 * np) ≤ length (now frequencies))
-        × (length (now strengths) ≡ length (now bands) * (3 * np) * (3 * np)) × (length (now flags) ≡ length (now bands) * (3 * np) * (3 * np)) × (allWithin (pos 0) (pos (3 * np - 1)) (now bands) ≡ true) ⌝ }
-    ensures { λ _. ⌜ (now (strengths .exit) ≡ table (length (now (bands .entry)) * (3 * np) * (3 * np)) (λ m. slotValue symmetry (reciprocalOf np ns anchoring (record { form = form; p2s = now (p2s .entry); s2p = now (s2p .entry); shortest = now (shortest .entry); nonzero = now (nonzero .entry); constants = now (constants .entry) }) (now (vectors .entry)) (now (multiplicity .entry))) np (record { leg0 = now (q0 .entry); leg1 = now (q1 .entry); leg2 = now (q2 .entry) })
-        (slotPhonons np (inverseRoots np (now (masses .entry))) (record { frequencies = now (frequencies .entry); eigenvectors = now (eigenvectors .entry) }) (record { leg0 = g0; leg1 = g1; leg2 = g2 }) (now (bands .entry)) m) cutoff (now (flags .entry)) (at (now (strengths .entry)) m) m))
+    requires { ⌜ (1 ≤ np)
+        × (np ≤ 256)
+        × (ns ≤ 256)
+        × (endAt np ns ≤ length (now work))
+        × Anchored (now vectors) (now multiplicity) (now p2s) np
+        × Ranged (now vectors) (now multiplicity) (ns * np)
+        × Shaped np ns (record {
+          form = form;
+          p2s = now p2s;
+          s2p = now s2p;
+          shortest = now shortest;
+          nonzero = now nonzero;
+          constants = now constants;
+        }) ⌝ }
+    requires { ⌜ (np ≤ length (now masses))
+        × (2 * ((g0 + 1) * (3 * np * (3 * np))) ≤ length (now eigenvectors))
+        × (2 * ((g1 + 1) * (3 * np * (3 * np))) ≤ length (now eigenvectors))
+        × (2 * ((g2 + 1) * (3 * np * (3 * np))) ≤ length (now eigenvectors)) ⌝ }
+    requires { ⌜ ((g0 + 1) * (3 * np) ≤ length (now frequencies))
+        × ((g1 + 1) * (3 * np) ≤ length (now frequencies))
+        × ((g2 + 1) * (3 * np) ≤ length (now frequencies))
+        × (length (now strengths) ≡ length (now bands) * (3 * np) * (3 * np))
+        × (length (now flags) ≡ length (now bands) * (3 * np) * (3 * np))
+        × (allWithin (pos 0) (pos (3 * np - 1)) (now bands) ≡ true) ⌝ }
+    ensures { λ _. ⌜ (now (strengths .exit) ≡ table (length (now (bands .entry)) * (3 * np) * (3 * np))
+        (λ m. slotValue symmetry
+        (reciprocalOf np ns anchoring
+        (record {
+          form = form;
+          p2s = now (p2s .entry);
+          s2p = now (s2p .entry);
+          shortest = now (shortest .entry);
+          nonzero = now (nonzero .entry);
+          constants = now (constants .entry);
+        }) (now (vectors .entry)) (now (multiplicity .entry))) np
+        (record { leg0 = now (q0 .entry); leg1 = now (q1 .entry); leg2 = now (q2 .entry) })
+        (slotPhonons np (inverseRoots np (now (masses .entry)))
+        (record { frequencies = now (frequencies .entry); eigenvectors = now (eigenvectors .entry) })
+        (record { leg0 = g0; leg1 = g1; leg2 = g2 }) (now (bands .entry)) m) cutoff (now (flags .entry))
+        (at (now (strengths .entry)) m) m))
         × Kept (now (work .entry)) (now (work .exit)) 0 (endAt np ns) ⌝ }
 {
     prepare(
@@ -167,27 +201,33 @@ pub fn work_triplet(
     strengths: &mut [f64],
     work: &mut [f64],
 )
-    requires { ⌜ tripletRefusal
-        (record {
-          tables = record {
-            measures = m;
-            settings = settings;
-            symmetry = symmetry;
-            crystal = record {
-              vectors = now vectors;
-              multiplicity = now multiplicity;
-              masses = now masses;
-              forces = record { form = form; p2s = now p2s; s2p = now s2p; shortest = now shortest; nonzero = now nonzero; constants = now constants };
-            };
-            grid = record { mesh = mesh; matrix = matrix; addresses = now addresses };
-            bands = now bands;
-            phonons = record { frequencies = now frequencies; eigenvectors = now eigenvectors };
+    requires { ⌜ tripletRefusal (record {
+      tables = record {
+        measures = m;
+        settings = settings;
+        symmetry = symmetry;
+        crystal = record {
+          vectors = now vectors;
+          multiplicity = now multiplicity;
+          masses = now masses;
+          forces = record {
+            form = form;
+            p2s = now p2s;
+            s2p = now s2p;
+            shortest = now shortest;
+            nonzero = now nonzero;
+            constants = now constants;
           };
-          triplet = triplet;
-          flags = now flags;
-          strengths = now strengths;
-          work = now work;
-        })
+        };
+        grid = record { mesh = mesh; matrix = matrix; addresses = now addresses };
+        bands = now bands;
+        phonons = record { frequencies = now frequencies; eigenvectors = now eigenvectors };
+      };
+      triplet = triplet;
+      flags = now flags;
+      strengths = now strengths;
+      work = now work;
+    })
         ≡ 0 ⌝ }
     ensures { λ _. ⌜ (now (strengths .exit) ≡ Interaction.strengths
         (record {
@@ -199,7 +239,14 @@ pub fn work_triplet(
               vectors = now (vectors .entry);
               multiplicity = now (multiplicity .entry);
               masses = now (masses .entry);
-              forces = record { form = form; p2s = now (p2s .entry); s2p = now (s2p .entry); shortest = now (shortest .entry); nonzero = now (nonzero .entry); constants = now (constants .entry) };
+              forces = record {
+                form = form;
+                p2s = now (p2s .entry);
+                s2p = now (s2p .entry);
+                shortest = now (shortest .entry);
+                nonzero = now (nonzero .entry);
+                constants = now (constants .entry);
+              };
             };
             grid = record { mesh = mesh; matrix = matrix; addresses = now (addresses .entry) };
             bands = now (bands .entry);
@@ -207,8 +254,7 @@ pub fn work_triplet(
           };
           points = triplet;
           flags = now (flags .entry);
-        })
-        (now (strengths .entry)))
+        }) (now (strengths .entry)))
         × (now (work .exit) ≡ cleared m (now (work .entry))) ⌝ }
 {
     let np = m.atoms;

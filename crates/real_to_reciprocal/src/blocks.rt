@@ -44,7 +44,10 @@ fn mean(a: Complex, b: Complex, c: Complex) -> Complex
 // The mean of three numbers of t, from number e on, of `second`, from f on, and of `third`, from g on in steps of nine.
 fn average_run(t: &mut [f64], second: &[f64], third: &[f64], e: usize, f: usize, g: usize)
     requires { ⌜ (length (now t) ≡ 54) × (length (now second) ≡ 54) × (length (now third) ≡ 54) × (e ≤ 24) × (f ≤ 24) × (g < 9) ⌝ }
-    ensures { λ _. ⌜ WroteSplit (now (t .entry)) (now (t .exit)) e 27 3 (λ n. Def.over3 (cadd (cadd (cadd czero (split (now (t .entry)) 0 27 (e + n))) (split (now (second .entry)) 0 27 (f + n))) (split (now (third .entry)) 0 27 (g + 9 * n)))) ⌝ }
+    ensures { λ _. ⌜ WroteSplit (now (t .entry)) (now (t .exit)) e 27 3
+        (λ n. Def.over3
+        (cadd (cadd (cadd czero (split (now (t .entry)) 0 27 (e + n))) (split (now (second .entry)) 0 27 (f + n)))
+        (split (now (third .entry)) 0 27 (g + 9 * n)))) ⌝ }
 {
     for n in 0..3 {
         let a = get_split(t, 0, 27, e + n);
@@ -58,7 +61,12 @@ fn average_run(t: &mut [f64], second: &[f64], third: &[f64], e: usize, f: usize,
 // first and the third of the third leg.
 fn average(t: &mut [f64], second: &[f64], third: &[f64])
     requires { ⌜ (length (now t) ≡ 54) × (length (now second) ≡ 54) × (length (now third) ≡ 54) ⌝ }
-    ensures { λ _. ⌜ WroteSplit (now (t .entry)) (now (t .exit)) 0 27 27 (λ e. Def.over3 (cadd (cadd (cadd czero (split (now (t .entry)) 0 27 e)) (split (now (second .entry)) 0 27 (e % 9 / 3 * 9 + e / 9 * 3 + e % 3))) (split (now (third .entry)) 0 27 (e % 3 * 9 + e % 9 / 3 * 3 + e / 9)))) ⌝ }
+    ensures { λ _. ⌜ WroteSplit (now (t .entry)) (now (t .exit)) 0 27 27
+        (λ e. Def.over3
+        (cadd
+        (cadd (cadd czero (split (now (t .entry)) 0 27 e))
+        (split (now (second .entry)) 0 27 (e % 9 / 3 * 9 + e / 9 * 3 + e % 3)))
+        (split (now (third .entry)) 0 27 (e % 3 * 9 + e % 9 / 3 * 3 + e / 9)))) ⌝ }
 {
     for q in 0..9 {
         let l = q / 3;
@@ -89,7 +97,8 @@ fn store_plane(
     e: usize,
 )
     requires { ⌜ (length (now t) ≡ 54) × (e < 19) × (al < 3 * np) × (j < np) × (k < np) × (regionEnd fo np ≤ length (now w)) ⌝ }
-    ensures { λ _. ⌜ Stored (now (w .entry)) (now (w .exit)) fo np (Box al (al + 1) (3 * j) (3 * j + 3) (3 * k) (3 * k + 3)) (λ x y z. split (now (t .entry)) 0 27 (e + y % 3 * 3 + z % 3)) ⌝ }
+    ensures { λ _. ⌜ Stored (now (w .entry)) (now (w .exit)) fo np (Box al (al + 1) (3 * j) (3 * j + 3) (3 * k) (3 * k + 3))
+        (λ x y z. split (now (t .entry)) 0 27 (e + y % 3 * 3 + z % 3)) ⌝ }
 {
     let b = 3 * np;
     let d = b * b;
@@ -102,7 +111,9 @@ fn store_plane(
 // The 27 numbers of t at the places of atoms i, j and k.
 pub fn store_block(w: &mut [f64], fo: usize, np: usize, i: usize, j: usize, k: usize, t: &[f64])
     requires { ⌜ (length (now t) ≡ 54) × (i < np) × (j < np) × (k < np) × (regionEnd fo np ≤ length (now w)) ⌝ }
-    ensures { λ _. ⌜ Stored (now (w .entry)) (now (w .exit)) fo np (Box (3 * i) (3 * i + 3) (3 * j) (3 * j + 3) (3 * k) (3 * k + 3)) (λ x y z. split (now (t .entry)) 0 27 (x % 3 * 9 + y % 3 * 3 + z % 3)) ⌝ }
+    ensures { λ _. ⌜ Stored (now (w .entry)) (now (w .exit)) fo np
+        (Box (3 * i) (3 * i + 3) (3 * j) (3 * j + 3) (3 * k) (3 * k + 3))
+        (λ x y z. split (now (t .entry)) 0 27 (x % 3 * 9 + y % 3 * 3 + z % 3)) ⌝ }
 {
     for l in 0..3 {
         store_plane(w, fo, np, 3 * i + l, j, k, t, 9 * l);
@@ -131,8 +142,34 @@ fn leg_block(
     j: usize,
     k: usize,
 )
-    requires { ⌜ Shaped np ns (record { form = form; p2s = now p2s; s2p = now s2p; shortest = now shortest; nonzero = now nonzero; constants = now constants }) × FirstCopies np ns (now p2s) (now s2p) (now first) × LaterCopies ns (now s2p) (now later) × (po + 2 * np ≤ length (now w)) × (f1 + 2 * (np * ns) ≤ length (now w)) × (f2 + 2 * (np * ns) ≤ length (now w)) × (i < np) × (j < np) × (k < np) ⌝ }
-    ensures { λ _. ⌜ Cols (now (t .exit)) 27 (λ e. cmul (Def.element ns (record { form = form; p2s = now (p2s .entry); s2p = now (s2p .entry); shortest = now (shortest .entry); nonzero = now (nonzero .entry); constants = now (constants .entry) }) leg (split (now (w .entry)) f1 (np * ns)) (split (now (w .entry)) f2 (np * ns)) i j k e) (split (now (w .entry)) po np i)) ⌝ }
+    requires { ⌜ Shaped np ns (record {
+      form = form;
+      p2s = now p2s;
+      s2p = now s2p;
+      shortest = now shortest;
+      nonzero = now nonzero;
+      constants = now constants;
+    })
+        × FirstCopies np ns (now p2s) (now s2p) (now first)
+        × LaterCopies ns (now s2p) (now later)
+        × (po + 2 * np ≤ length (now w))
+        × (f1 + 2 * (np * ns) ≤ length (now w))
+        × (f2 + 2 * (np * ns) ≤ length (now w))
+        × (i < np)
+        × (j < np)
+        × (k < np) ⌝ }
+    ensures { λ _. ⌜ Cols (now (t .exit)) 27
+        (λ e. cmul
+        (Def.element ns
+        (record {
+          form = form;
+          p2s = now (p2s .entry);
+          s2p = now (s2p .entry);
+          shortest = now (shortest .entry);
+          nonzero = now (nonzero .entry);
+          constants = now (constants .entry);
+        }) leg (split (now (w .entry)) f1 (np * ns)) (split (now (w .entry)) f2 (np * ns)) i j k e)
+        (split (now (w .entry)) po np i)) ⌝ }
 {
     *t = real_to_reciprocal_elements(
         w,
@@ -177,8 +214,34 @@ pub fn legacy_block(
     j: usize,
     k: usize,
 )
-    requires { ⌜ Shaped np ns (record { form = form; p2s = now p2s; s2p = now s2p; shortest = now shortest; nonzero = now nonzero; constants = now constants }) × FirstCopies np ns (now p2s) (now s2p) (now first) × LaterCopies ns (now s2p) (now later) × (po + 2 * np ≤ length (now w)) × (f1 + 2 * (np * ns) ≤ length (now w)) × (f2 + 2 * (np * ns) ≤ length (now w)) × (i < np) × (j < np) × (k < np) ⌝ }
-    ensures { λ _. ⌜ Cols (now (t .exit)) 27 (λ e. cmul (Def.element ns (record { form = form; p2s = now (p2s .entry); s2p = now (s2p .entry); shortest = now (shortest .entry); nonzero = now (nonzero .entry); constants = now (constants .entry) }) Alone (split (now (w .entry)) f1 (np * ns)) (split (now (w .entry)) f2 (np * ns)) i j k e) (split (now (w .entry)) po np i)) ⌝ }
+    requires { ⌜ Shaped np ns (record {
+      form = form;
+      p2s = now p2s;
+      s2p = now s2p;
+      shortest = now shortest;
+      nonzero = now nonzero;
+      constants = now constants;
+    })
+        × FirstCopies np ns (now p2s) (now s2p) (now first)
+        × LaterCopies ns (now s2p) (now later)
+        × (po + 2 * np ≤ length (now w))
+        × (f1 + 2 * (np * ns) ≤ length (now w))
+        × (f2 + 2 * (np * ns) ≤ length (now w))
+        × (i < np)
+        × (j < np)
+        × (k < np) ⌝ }
+    ensures { λ _. ⌜ Cols (now (t .exit)) 27
+        (λ e. cmul
+        (Def.element ns
+        (record {
+          form = form;
+          p2s = now (p2s .entry);
+          s2p = now (s2p .entry);
+          shortest = now (shortest .entry);
+          nonzero = now (nonzero .entry);
+          constants = now (constants .entry);
+        }) Alone (split (now (w .entry)) f1 (np * ns)) (split (now (w .entry)) f2 (np * ns)) i j k e)
+        (split (now (w .entry)) po np i)) ⌝ }
 {
     leg_block(
         t,
@@ -225,8 +288,33 @@ pub fn r0_average_block(
     j: usize,
     k: usize,
 )
-    requires { ⌜ Shaped np ns (record { form = form; p2s = now p2s; s2p = now s2p; shortest = now shortest; nonzero = now nonzero; constants = now constants }) × FirstCopies np ns (now p2s) (now s2p) (now first) × LaterCopies ns (now s2p) (now later) × (po + 2 * np ≤ length (now w)) × (f0 + 2 * (np * ns) ≤ length (now w)) × (f1 + 2 * (np * ns) ≤ length (now w)) × (f2 + 2 * (np * ns) ≤ length (now w)) × (i < np) × (j < np) × (k < np) ⌝ }
-    ensures { λ _. ⌜ Cols (now (t .exit)) 27 (λ e. Def.averagedElement ns (record { form = form; p2s = now (p2s .entry); s2p = now (s2p .entry); shortest = now (shortest .entry); nonzero = now (nonzero .entry); constants = now (constants .entry) }) (factorsIn (now (w .entry)) po f0 f1 f2 np ns) i j k (e / 9) (e % 9 / 3) (e % 3)) ⌝ }
+    requires { ⌜ Shaped np ns (record {
+      form = form;
+      p2s = now p2s;
+      s2p = now s2p;
+      shortest = now shortest;
+      nonzero = now nonzero;
+      constants = now constants;
+    })
+        × FirstCopies np ns (now p2s) (now s2p) (now first)
+        × LaterCopies ns (now s2p) (now later)
+        × (po + 2 * np ≤ length (now w))
+        × (f0 + 2 * (np * ns) ≤ length (now w))
+        × (f1 + 2 * (np * ns) ≤ length (now w))
+        × (f2 + 2 * (np * ns) ≤ length (now w))
+        × (i < np)
+        × (j < np)
+        × (k < np) ⌝ }
+    ensures { λ _. ⌜ Cols (now (t .exit)) 27
+        (λ e. Def.averagedElement ns
+        (record {
+          form = form;
+          p2s = now (p2s .entry);
+          s2p = now (s2p .entry);
+          shortest = now (shortest .entry);
+          nonzero = now (nonzero .entry);
+          constants = now (constants .entry);
+        }) (factorsIn (now (w .entry)) po f0 f1 f2 np ns) i j k (e / 9) (e % 9 / 3) (e % 3)) ⌝ }
 {
     let mut second: [f64; 54] = [0.0; 54];
     let mut third: [f64; 54] = [0.0; 54];
@@ -319,8 +407,33 @@ pub fn block(
     j: usize,
     k: usize,
 )
-    requires { ⌜ Shaped np ns (record { form = form; p2s = now p2s; s2p = now s2p; shortest = now shortest; nonzero = now nonzero; constants = now constants }) × FirstCopies np ns (now p2s) (now s2p) (now first) × LaterCopies ns (now s2p) (now later) × (po + 2 * np ≤ length (now w)) × (f0 + 2 * (np * ns) ≤ length (now w)) × (f1 + 2 * (np * ns) ≤ length (now w)) × (f2 + 2 * (np * ns) ≤ length (now w)) × (i < np) × (j < np) × (k < np) ⌝ }
-    ensures { λ _. ⌜ Cols (now (t .exit)) 27 (λ e. Def.anchored ns (record { form = form; p2s = now (p2s .entry); s2p = now (s2p .entry); shortest = now (shortest .entry); nonzero = now (nonzero .entry); constants = now (constants .entry) }) (factorsIn (now (w .entry)) po f0 f1 f2 np ns) i j k (e / 9) (e % 9 / 3) (e % 3) anchoring) ⌝ }
+    requires { ⌜ Shaped np ns (record {
+      form = form;
+      p2s = now p2s;
+      s2p = now s2p;
+      shortest = now shortest;
+      nonzero = now nonzero;
+      constants = now constants;
+    })
+        × FirstCopies np ns (now p2s) (now s2p) (now first)
+        × LaterCopies ns (now s2p) (now later)
+        × (po + 2 * np ≤ length (now w))
+        × (f0 + 2 * (np * ns) ≤ length (now w))
+        × (f1 + 2 * (np * ns) ≤ length (now w))
+        × (f2 + 2 * (np * ns) ≤ length (now w))
+        × (i < np)
+        × (j < np)
+        × (k < np) ⌝ }
+    ensures { λ _. ⌜ Cols (now (t .exit)) 27
+        (λ e. Def.anchored ns
+        (record {
+          form = form;
+          p2s = now (p2s .entry);
+          s2p = now (s2p .entry);
+          shortest = now (shortest .entry);
+          nonzero = now (nonzero .entry);
+          constants = now (constants .entry);
+        }) (factorsIn (now (w .entry)) po f0 f1 f2 np ns) i j k (e / 9) (e % 9 / 3) (e % 3) anchoring) ⌝ }
 {
     match anchoring {
         Anchoring::Plain => legacy_block(

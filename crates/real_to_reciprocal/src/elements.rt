@@ -101,7 +101,8 @@ fn factor(leg: Leg, shortest: &[u8], n: usize) -> f64
 // Adds z times the 27 force constants from `base` on to the 27 sums of t.
 fn add_block(t: &mut [f64], constants: &[f64], base: usize, z: Complex)
     requires { ⌜ (length (now t) ≡ 54) × (base + 27 ≤ length (now constants)) ⌝ }
-    ensures { λ _. ⌜ WroteSplit (now (t .entry)) (now (t .exit)) 0 27 27 (λ e. cadd (split (now (t .entry)) 0 27 e) (scale z (at (now (constants .entry)) (base + e)))) ⌝ }
+    ensures { λ _. ⌜ WroteSplit (now (t .entry)) (now (t .exit)) 0 27 27
+        (λ e. cadd (split (now (t .entry)) 0 27 e) (scale z (at (now (constants .entry)) (base + e)))) ⌝ }
 {
     for e in 0..27 {
         let s = cmplx_add(get_split(t, 0, 27, e), cmplx_scale(z, constants[base + e]));
@@ -127,8 +128,16 @@ fn add_pair(
     j: usize,
     k: usize,
 )
-    requires { ⌜ (length (now t) ≡ 54) × (k < ns) × ((i * ns + j) * ns + k < length (now shortest)) × ((row * ns + j) * ns + k < length (now nonzero)) × (((row * ns + j) * ns + k) * 27 + 27 ≤ length (now constants)) × (f1 + d + (i * ns + j) < length (now w)) × (f2 + d + (i * ns + k) < length (now w)) ⌝ }
-    ensures { λ _. ⌜ WroteSplit (now (t .entry)) (now (t .exit)) 0 27 27 (λ e. pairStep (now (shortest .entry)) (now (nonzero .entry)) (now (constants .entry)) leg (split (now (w .entry)) f1 d) (split (now (w .entry)) f2 d) ns i row j k e (split (now (t .entry)) 0 27 e)) ⌝ }
+    requires { ⌜ (length (now t) ≡ 54)
+        × (k < ns)
+        × ((i * ns + j) * ns + k < length (now shortest))
+        × ((row * ns + j) * ns + k < length (now nonzero))
+        × (((row * ns + j) * ns + k) * 27 + 27 ≤ length (now constants))
+        × (f1 + d + (i * ns + j) < length (now w))
+        × (f2 + d + (i * ns + k) < length (now w)) ⌝ }
+    ensures { λ _. ⌜ WroteSplit (now (t .entry)) (now (t .exit)) 0 27 27
+        (λ e. pairStep (now (shortest .entry)) (now (nonzero .entry)) (now (constants .entry)) leg (split (now (w .entry)) f1 d)
+        (split (now (w .entry)) f2 d) ns i row j k e (split (now (t .entry)) 0 27 e)) ⌝ }
 {
     let n = (row * ns + j) * ns + k;
     if nonzero[n] == 0 {
@@ -171,8 +180,31 @@ pub fn real_to_reciprocal_elements(
     a: usize,
     b: usize,
 ) -> [f64; 54]
-    requires { ⌜ Shaped np ns (record { form = form; p2s = now p2s; s2p = now s2p; shortest = now shortest; nonzero = now nonzero; constants = now constants }) × FirstCopies np ns (now p2s) (now s2p) (now first) × LaterCopies ns (now s2p) (now later) × (f1 + 2 * (np * ns) ≤ length (now w)) × (f2 + 2 * (np * ns) ≤ length (now w)) × (i < np) × (a < np) × (b < np) ⌝ }
-    ensures { λ r. ⌜ Cols r 27 (Def.element ns (record { form = form; p2s = now (p2s .entry); s2p = now (s2p .entry); shortest = now (shortest .entry); nonzero = now (nonzero .entry); constants = now (constants .entry) }) leg (split (now (w .entry)) f1 (np * ns)) (split (now (w .entry)) f2 (np * ns)) i a b) ⌝ }
+    requires { ⌜ Shaped np ns (record {
+      form = form;
+      p2s = now p2s;
+      s2p = now s2p;
+      shortest = now shortest;
+      nonzero = now nonzero;
+      constants = now constants;
+    })
+        × FirstCopies np ns (now p2s) (now s2p) (now first)
+        × LaterCopies ns (now s2p) (now later)
+        × (f1 + 2 * (np * ns) ≤ length (now w))
+        × (f2 + 2 * (np * ns) ≤ length (now w))
+        × (i < np)
+        × (a < np)
+        × (b < np) ⌝ }
+    ensures { λ r. ⌜ Cols r 27
+        (Def.element ns
+        (record {
+          form = form;
+          p2s = now (p2s .entry);
+          s2p = now (s2p .entry);
+          shortest = now (shortest .entry);
+          nonzero = now (nonzero .entry);
+          constants = now (constants .entry);
+        }) leg (split (now (w .entry)) f1 (np * ns)) (split (now (w .entry)) f2 (np * ns)) i a b) ⌝ }
 {
     let row = row_of(form, p2s, i);
     let d = np * ns;

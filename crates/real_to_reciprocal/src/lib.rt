@@ -37,8 +37,36 @@ pub fn real_to_reciprocal(
     np: usize,
     ns: usize,
 )
-    requires { ⌜ (np ≤ 256) × (ns ≤ 256) × Shaped np ns (record { form = form; p2s = now p2s; s2p = now s2p; shortest = now shortest; nonzero = now nonzero; constants = now constants }) × (po + 2 * np ≤ fo) × (f0 + 2 * (np * ns) ≤ fo) × (f1 + 2 * (np * ns) ≤ fo) × (f2 + 2 * (np * ns) ≤ fo) × (regionEnd fo np ≤ length (now w)) ⌝ }
-    ensures { λ _. ⌜ (constantsIn (now (w .exit)) fo np ≡ reciprocalFrom np ns anchoring (record { form = form; p2s = now (p2s .entry); s2p = now (s2p .entry); shortest = now (shortest .entry); nonzero = now (nonzero .entry); constants = now (constants .entry) }) (numbersIn (now (w .entry)) po np np) (record { leg0 = numbersIn (now (w .entry)) f0 (np * ns) (np * ns); leg1 = numbersIn (now (w .entry)) f1 (np * ns) (np * ns); leg2 = numbersIn (now (w .entry)) f2 (np * ns) (np * ns) })) × Kept (now (w .entry)) (now (w .exit)) fo (regionEnd fo np) ⌝ }
+    requires { ⌜ (np ≤ 256)
+        × (ns ≤ 256)
+        × Shaped np ns (record {
+          form = form;
+          p2s = now p2s;
+          s2p = now s2p;
+          shortest = now shortest;
+          nonzero = now nonzero;
+          constants = now constants;
+        })
+        × (po + 2 * np ≤ fo)
+        × (f0 + 2 * (np * ns) ≤ fo)
+        × (f1 + 2 * (np * ns) ≤ fo)
+        × (f2 + 2 * (np * ns) ≤ fo)
+        × (regionEnd fo np ≤ length (now w)) ⌝ }
+    ensures { λ _. ⌜ (constantsIn (now (w .exit)) fo np ≡ reciprocalFrom np ns anchoring
+        (record {
+          form = form;
+          p2s = now (p2s .entry);
+          s2p = now (s2p .entry);
+          shortest = now (shortest .entry);
+          nonzero = now (nonzero .entry);
+          constants = now (constants .entry);
+        }) (numbersIn (now (w .entry)) po np np)
+        (record {
+          leg0 = numbersIn (now (w .entry)) f0 (np * ns) (np * ns);
+          leg1 = numbersIn (now (w .entry)) f1 (np * ns) (np * ns);
+          leg2 = numbersIn (now (w .entry)) f2 (np * ns) (np * ns);
+        }))
+        × Kept (now (w .entry)) (now (w .exit)) fo (regionEnd fo np) ⌝ }
 {
     let mut first: [u16; 256] = [0; 256];
     let mut later: [u16; 256] = [0; 256];

@@ -109,7 +109,9 @@ fn phase_factor_row(
     i: usize,
 )
     requires { ⌜ (i < np) × (ns ≤ d) × (off + d + ns ≤ length (now w)) × Ranged (now vectors) (now multiplicity) (ns * np) ⌝ }
-    ensures { λ _. ⌜ WroteSplit (now (w .entry)) (now (w .exit)) off d ns (λ j. Def.phaseFactor (now (q .entry)) (now (vectors .entry)) (int (now (multiplicity .entry)) (2 * (j * np + i))) (int (now (multiplicity .entry)) (2 * (j * np + i) + 1))) ⌝ }
+    ensures { λ _. ⌜ WroteSplit (now (w .entry)) (now (w .exit)) off d ns
+        (λ j. Def.phaseFactor (now (q .entry)) (now (vectors .entry)) (int (now (multiplicity .entry)) (2 * (j * np + i)))
+        (int (now (multiplicity .entry)) (2 * (j * np + i) + 1))) ⌝ }
 {
     for j in 0..ns {
         let n = 2 * (j * np + i);
@@ -130,7 +132,8 @@ pub fn phase_factors(
     ns: usize,
 )
     requires { ⌜ (off + 2 * (np * ns) ≤ length (now w)) × Ranged (now vectors) (now multiplicity) (ns * np) ⌝ }
-    ensures { λ _. ⌜ WroteSplit (now (w .entry)) (now (w .exit)) off (np * ns) (np * ns) (Def.phaseFactorEntry np ns (now (vectors .entry)) (now (multiplicity .entry)) (now (q .entry))) ⌝ }
+    ensures { λ _. ⌜ WroteSplit (now (w .entry)) (now (w .exit)) off (np * ns) (np * ns)
+        (Def.phaseFactorEntry np ns (now (vectors .entry)) (now (multiplicity .entry)) (now (q .entry))) ⌝ }
 {
     let d = np * ns;
     for i in 0..np {
@@ -161,8 +164,11 @@ pub fn get_pre_phase_factor(
     p2s: &[i64],
     np: usize,
 ) -> Complex
-    requires { ⌜ (i < length (now p2s)) × (2 * (index (int (now p2s) i) * np) + 2 ≤ length (now multiplicity)) × (3 * Def.anchorVector np (now multiplicity) (now p2s) i + 3 ≤ length (now vectors)) ⌝ }
-    ensures { λ r. ⌜ r ≡ Def.preFactorEntry np (now (vectors .entry)) (now (multiplicity .entry)) (now (p2s .entry)) (record { leg0 = now (q0 .entry); leg1 = now (q1 .entry); leg2 = now (q2 .entry) }) i ⌝ }
+    requires { ⌜ (i < length (now p2s))
+        × (2 * (index (int (now p2s) i) * np) + 2 ≤ length (now multiplicity))
+        × (3 * Def.anchorVector np (now multiplicity) (now p2s) i + 3 ≤ length (now vectors)) ⌝ }
+    ensures { λ r. ⌜ r ≡ Def.preFactorEntry np (now (vectors .entry)) (now (multiplicity .entry)) (now (p2s .entry))
+        (record { leg0 = now (q0 .entry); leg1 = now (q1 .entry); leg2 = now (q2 .entry) }) i ⌝ }
 {
     let n = 2 * (index_at(p2s, i) * np) + 1;
     let turn = cis(pre_phase(vectors, q0, q1, q2, index_at(multiplicity, n)));
@@ -182,7 +188,12 @@ pub fn pre_phase_factors(
     np: usize,
 )
     requires { ⌜ (off + 2 * np ≤ length (now w)) × Anchored (now vectors) (now multiplicity) (now p2s) np ⌝ }
-    ensures { λ _. ⌜ WroteSplit (now (w .entry)) (now (w .exit)) off np np (Def.preFactorEntry np (now (vectors .entry)) (now (multiplicity .entry)) (now (p2s .entry)) (record { leg0 = now (q0 .entry); leg1 = now (q1 .entry); leg2 = now (q2 .entry) })) ⌝ }
+    ensures { λ _. ⌜ WroteSplit (now (w .entry)) (now (w .exit)) off np np
+        (Def.preFactorEntry np (now (vectors .entry)) (now (multiplicity .entry)) (now (p2s .entry)) (record {
+          leg0 = now (q0 .entry);
+          leg1 = now (q1 .entry);
+          leg2 = now (q2 .entry);
+        })) ⌝ }
 {
     for i in 0..np {
         let z = get_pre_phase_factor(i, q0, q1, q2, vectors, multiplicity, p2s, np);

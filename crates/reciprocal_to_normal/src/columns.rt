@@ -17,7 +17,8 @@ ghost use Rattle.reciprocal_to_normal.specs.Columns.{Lanes};
 // Adds v times the numbers from `from` on of the matrix, one to each of m columns.
 pub fn add_columns(t: &mut [f64], w: &[f64], from: usize, d: usize, v: Complex, m: usize)
     requires { ⌜ (length (now t) ≡ 2 * m) × (from + d + m ≤ length (now w)) ⌝ }
-    ensures { λ _. ⌜ WroteSplit (now (t .entry)) (now (t .exit)) 0 m m (λ c. cadd (split (now (t .entry)) 0 m c) (cmul (split (now (w .entry)) from d c) v)) ⌝ }
+    ensures { λ _. ⌜ WroteSplit (now (t .entry)) (now (t .exit)) 0 m m
+        (λ c. cadd (split (now (t .entry)) 0 m c) (cmul (split (now (w .entry)) from d c) v)) ⌝ }
 {
     for c in 0..m {
         let p = cmplx_mul(get_split(w, from, d, c), v);
@@ -86,7 +87,9 @@ fn lanes_columns(
 // The partial sums joined (0 + 1) + (2 + 3).
 fn join_lanes(all: &[f64]) -> [f64; 12]
     requires { ⌜ length (now all) ≡ 48 ⌝ }
-    ensures { λ r. ⌜ Cols r 6 (λ c. cadd (cadd (split (now (all .entry)) 0 6 c) (split (now (all .entry)) 12 6 c)) (cadd (split (now (all .entry)) 24 6 c) (split (now (all .entry)) 36 6 c))) ⌝ }
+    ensures { λ r. ⌜ Cols r 6
+        (λ c. cadd (cadd (split (now (all .entry)) 0 6 c) (split (now (all .entry)) 12 6 c))
+        (cadd (split (now (all .entry)) 24 6 c) (split (now (all .entry)) 36 6 c))) ⌝ }
 {
     let mut t: [f64; 12] = [0.0; 12];
     for c in 0..6 {

@@ -25,7 +25,8 @@ fn clear_planes(w: &mut [f64], off: usize, d: usize)
 // Adds e times the planes at fo to the planes at off.
 fn add_planes(w: &mut [f64], off: usize, fo: usize, d: usize, e: Complex)
     requires { ⌜ (off + 2 * d ≤ length (now w)) × (fo + 2 * d ≤ off) ⌝ }
-    ensures { λ _. ⌜ WroteSplit (now (w .entry)) (now (w .exit)) off d d (λ x. cadd (split (now (w .entry)) off d x) (cmul (split (now (w .entry)) fo d x) e)) ⌝ }
+    ensures { λ _. ⌜ WroteSplit (now (w .entry)) (now (w .exit)) off d d
+        (λ x. cadd (split (now (w .entry)) off d x) (cmul (split (now (w .entry)) fo d x) e)) ⌝ }
 {
     for x in 0..d {
         let p = cmplx_mul(get_split(w, fo, d, x), e);
@@ -37,7 +38,8 @@ fn add_planes(w: &mut [f64], off: usize, fo: usize, d: usize, e: Complex)
 // Adds number k of the array at eo times the planes at fo to the planes at off. A zero number is passed.
 fn turn_planes(w: &mut [f64], off: usize, fo: usize, d: usize, eo: usize, k: usize)
     requires { ⌜ (off + 2 * d ≤ length (now w)) × (fo + 2 * d ≤ off) × (eo + d + k < off) ⌝ }
-    ensures { λ _. ⌜ WroteSplit (now (w .entry)) (now (w .exit)) off d d (λ x. addUnlessZero (split (now (w .entry)) eo d k) (split (now (w .entry)) fo d x) (split (now (w .entry)) off d x)) ⌝ }
+    ensures { λ _. ⌜ WroteSplit (now (w .entry)) (now (w .exit)) off d d
+        (λ x. addUnlessZero (split (now (w .entry)) eo d k) (split (now (w .entry)) fo d x) (split (now (w .entry)) off d x)) ⌝ }
 {
     let e = get_split(w, eo, d, k);
     if is_zero(e) {

@@ -35,7 +35,8 @@ fn source_place(order: [usize; 3], nb: usize, x: usize, y: usize, z: usize) -> u
 // Adds a sixth of s to slot i unless it is flagged.
 fn gather_slot(out: &mut [f64], flags: &[u8], i: usize, s: f64)
     requires { ⌜ (i < length (now out)) × (i < length (now flags)) ⌝ }
-    ensures { λ _. ⌜ Visited (now (out .entry)) (now (out .exit)) (flagged (now (flags .entry))) (λ n. at (now (out .entry)) n ⊕ s ⊘ f6) (length (now (out .entry))) (λ n. n ≡ i) ⌝ }
+    ensures { λ _. ⌜ Visited (now (out .entry)) (now (out .exit)) (flagged (now (flags .entry)))
+        (λ n. at (now (out .entry)) n ⊕ s ⊘ f6) (length (now (out .entry))) (λ n. n ≡ i) ⌝ }
 {
     if is_flagged(flags, i) {
         return;
@@ -55,7 +56,12 @@ fn gather_column(
     b: usize,
     k: usize,
 )
-    requires { ⌜ (nb ≤ 3000) × (n < nb) × (k < nb) × ((b + 1) * nb * nb ≤ length (now out)) × (length (now out) ≤ length (now flags)) × (to + nb * (nb * nb) ≤ length (now w)) ⌝ }
+    requires { ⌜ (nb ≤ 3000)
+        × (n < nb)
+        × (k < nb)
+        × ((b + 1) * nb * nb ≤ length (now out))
+        × (length (now out) ≤ length (now flags))
+        × (to + nb * (nb * nb) ≤ length (now w)) ⌝ }
     requires { ⌜ (getD order 0 0 < 3) × (getD order 1 0 < 3) × (getD order 2 0 < 3) ⌝ }
     ensures { λ _. ⌜ Visited (now (out .entry)) (now (out .exit)) (flagged (now (flags .entry)))
         (λ m. gathered (now (w .entry)) to nb order (λ i. n) (at (now (out .entry)) m) m) (length (now (out .entry))) (InColumn nb b k nb) ⌝ }
@@ -77,7 +83,11 @@ fn gather_plane(
     n: usize,
     b: usize,
 )
-    requires { ⌜ (nb ≤ 3000) × (n < nb) × ((b + 1) * nb * nb ≤ length (now out)) × (length (now out) ≤ length (now flags)) × (to + nb * (nb * nb) ≤ length (now w)) ⌝ }
+    requires { ⌜ (nb ≤ 3000)
+        × (n < nb)
+        × ((b + 1) * nb * nb ≤ length (now out))
+        × (length (now out) ≤ length (now flags))
+        × (to + nb * (nb * nb) ≤ length (now w)) ⌝ }
     requires { ⌜ (getD order 0 0 < 3) × (getD order 1 0 < 3) × (getD order 2 0 < 3) ⌝ }
     ensures { λ _. ⌜ Visited (now (out .entry)) (now (out .exit)) (flagged (now (flags .entry)))
         (λ m. gathered (now (w .entry)) to nb order (λ i. n) (at (now (out .entry)) m) m) (length (now (out .entry))) (InPlane nb b nb) ⌝ }
@@ -97,10 +107,17 @@ pub fn gather_sixth(
     bands: &[i64],
     np: usize,
 )
-    requires { ⌜ (1 ≤ np) × (np ≤ 1000) × (length (now out) ≡ length (now bands) * (3 * np) * (3 * np)) × (length (now flags) ≡ length (now bands) * (3 * np) * (3 * np)) × (to + 3 * np * (3 * np * (3 * np)) ≤ length (now w)) ⌝ }
+    requires { ⌜ (1 ≤ np)
+        × (np ≤ 1000)
+        × (length (now out) ≡ length (now bands) * (3 * np) * (3 * np))
+        × (length (now flags) ≡ length (now bands) * (3 * np) * (3 * np))
+        × (to + 3 * np * (3 * np * (3 * np)) ≤ length (now w)) ⌝ }
     requires { ⌜ (allWithin (pos 0) (pos (3 * np - 1)) (now bands) ≡ true) × (getD order 0 0 < 3) × (getD order 1 0 < 3) × (getD order 2 0 < 3) ⌝ }
-    ensures { λ _. ⌜ now (out .exit) ≡ table (length (now (bands .entry)) * (3 * np) * (3 * np)) (λ n. cond (flagged (now (flags .entry)) n) (at (now (out .entry)) n)
-        (at (now (out .entry)) n ⊕ at (now (w .entry)) (to + sourcePlace (3 * np) order (index (int (now (bands .entry)) (n / (3 * np) / (3 * np)))) (n / (3 * np) % (3 * np)) (n % (3 * np))) ⊘ f6)) ⌝ }
+    ensures { λ _. ⌜ now (out .exit) ≡ table (length (now (bands .entry)) * (3 * np) * (3 * np))
+        (λ n. cond (flagged (now (flags .entry)) n) (at (now (out .entry)) n)
+        (at (now (out .entry)) n ⊕ at (now (w .entry))
+        (to + sourcePlace (3 * np) order (index (int (now (bands .entry)) (n / (3 * np) / (3 * np))))
+        (n / (3 * np) % (3 * np)) (n % (3 * np))) ⊘ f6)) ⌝ }
 {
     let nb = 3 * np;
     for b in 0..bands.len() {

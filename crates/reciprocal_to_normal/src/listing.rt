@@ -30,9 +30,15 @@ fn list_slot(
     cutoff: f64,
 )
     requires { ⌜ (1 ≤ np) × (np ≤ 1000) × (j < 3 * np) × (k < 3 * np) ⌝ }
-    requires { ⌜ (mo + 2 * (3 * np * (3 * np)) ≤ ro) × (e1 + 2 * (3 * np * (3 * np)) ≤ ro) × (e2 + 2 * (3 * np * (3 * np)) ≤ ro) × (ro + 2 * (3 * np) ≤ to) × (to < length (now w)) ⌝ }
-    ensures { λ _. ⌜ WroteAbove (now (w .entry)) (now (w .exit)) ro (ro + 2 * (3 * np)) to 1 (λ i. strengthFrom cutoff
-        (amplitudeFrom (3 * np) (split (now (w .entry)) mo (3 * np * (3 * np))) (split (now (w .entry)) e1 (3 * np * (3 * np))) (split (now (w .entry)) e2 (3 * np * (3 * np))) j k) x y z) ⌝ }
+    requires { ⌜ (mo + 2 * (3 * np * (3 * np)) ≤ ro)
+        × (e1 + 2 * (3 * np * (3 * np)) ≤ ro)
+        × (e2 + 2 * (3 * np * (3 * np)) ≤ ro)
+        × (ro + 2 * (3 * np) ≤ to)
+        × (to < length (now w)) ⌝ }
+    ensures { λ _. ⌜ WroteAbove (now (w .entry)) (now (w .exit)) ro (ro + 2 * (3 * np)) to 1
+        (λ i. strengthFrom cutoff
+        (amplitudeFrom (3 * np) (split (now (w .entry)) mo (3 * np * (3 * np))) (split (now (w .entry)) e1 (3 * np * (3 * np)))
+        (split (now (w .entry)) e2 (3 * np * (3 * np))) j k) x y z) ⌝ }
 {
     let nb = 3 * np;
     let d = nb * nb;
@@ -57,9 +63,15 @@ fn list_row(
     cutoff: f64,
 )
     requires { ⌜ (1 ≤ np) × (np ≤ 1000) × (j < 3 * np) × (3 * np ≤ length (now freqs2)) ⌝ }
-    requires { ⌜ (mo + 2 * (3 * np * (3 * np)) ≤ ro) × (e1 + 2 * (3 * np * (3 * np)) ≤ ro) × (e2 + 2 * (3 * np * (3 * np)) ≤ ro) × (ro + 2 * (3 * np) ≤ to) × (to + 3 * np ≤ length (now w)) ⌝ }
-    ensures { λ _. ⌜ WroteAbove (now (w .entry)) (now (w .exit)) ro (ro + 2 * (3 * np)) to (3 * np) (λ k. strengthFrom cutoff
-        (amplitudeFrom (3 * np) (split (now (w .entry)) mo (3 * np * (3 * np))) (split (now (w .entry)) e1 (3 * np * (3 * np))) (split (now (w .entry)) e2 (3 * np * (3 * np))) j k) x y (at (now (freqs2 .entry)) k)) ⌝ }
+    requires { ⌜ (mo + 2 * (3 * np * (3 * np)) ≤ ro)
+        × (e1 + 2 * (3 * np * (3 * np)) ≤ ro)
+        × (e2 + 2 * (3 * np * (3 * np)) ≤ ro)
+        × (ro + 2 * (3 * np) ≤ to)
+        × (to + 3 * np ≤ length (now w)) ⌝ }
+    ensures { λ _. ⌜ WroteAbove (now (w .entry)) (now (w .exit)) ro (ro + 2 * (3 * np)) to (3 * np)
+        (λ k. strengthFrom cutoff
+        (amplitudeFrom (3 * np) (split (now (w .entry)) mo (3 * np * (3 * np))) (split (now (w .entry)) e1 (3 * np * (3 * np)))
+        (split (now (w .entry)) e2 (3 * np * (3 * np))) j k) x y (at (now (freqs2 .entry)) k)) ⌝ }
 {
     let nb = 3 * np;
     for k in 0..nb {
@@ -82,9 +94,14 @@ fn list_plane(
     cutoff: f64,
 )
     requires { ⌜ (1 ≤ np) × (np ≤ 1000) × (3 * np ≤ length (now freqs1)) × (3 * np ≤ length (now freqs2)) ⌝ }
-    requires { ⌜ (mo + 2 * (3 * np * (3 * np)) ≤ ro) × (e1 + 2 * (3 * np * (3 * np)) ≤ ro) × (e2 + 2 * (3 * np * (3 * np)) ≤ ro) × (ro + 2 * (3 * np) ≤ to) × (to + 3 * np * (3 * np) ≤ length (now w)) ⌝ }
+    requires { ⌜ (mo + 2 * (3 * np * (3 * np)) ≤ ro)
+        × (e1 + 2 * (3 * np * (3 * np)) ≤ ro)
+        × (e2 + 2 * (3 * np * (3 * np)) ≤ ro)
+        × (ro + 2 * (3 * np) ≤ to)
+        × (to + 3 * np * (3 * np) ≤ length (now w)) ⌝ }
     ensures { λ _. ⌜ WroteAbove (now (w .entry)) (now (w .exit)) ro (ro + 2 * (3 * np)) to (3 * np * (3 * np))
-        (planeSlot (3 * np) (split (now (w .entry)) mo (3 * np * (3 * np))) (split (now (w .entry)) e1 (3 * np * (3 * np))) (split (now (w .entry)) e2 (3 * np * (3 * np))) (at (now (freqs1 .entry))) (at (now (freqs2 .entry))) x cutoff) ⌝ }
+        (planeSlot (3 * np) (split (now (w .entry)) mo (3 * np * (3 * np))) (split (now (w .entry)) e1 (3 * np * (3 * np)))
+        (split (now (w .entry)) e2 (3 * np * (3 * np))) (at (now (freqs1 .entry))) (at (now (freqs2 .entry))) x cutoff) ⌝ }
 {
     let nb = 3 * np;
     for j in 0..nb {
@@ -122,10 +139,16 @@ pub fn full_strengths(
     cutoff: f64,
 )
     requires { ⌜ (1 ≤ np) × (np ≤ 1000) × (3 * np ≤ length (now freqs0)) × (3 * np ≤ length (now freqs1)) × (3 * np ≤ length (now freqs2)) ⌝ }
-    requires { ⌜ (fo + 2 * (3 * np * (3 * np * (3 * np))) ≤ so) × (e0 + 2 * (3 * np * (3 * np)) ≤ so) × (e1 + 2 * (3 * np * (3 * np)) ≤ so) × (e2 + 2 * (3 * np * (3 * np)) ≤ so)
-        × (so + 2 * (3 * np * (3 * np)) + 2 * (3 * np) ≤ to) × (to + 3 * np * (3 * np * (3 * np)) ≤ length (now w)) ⌝ }
-    ensures { λ _. ⌜ WroteAbove (now (w .entry)) (now (w .exit)) so (so + 2 * (3 * np * (3 * np)) + 2 * (3 * np)) to (3 * np * (3 * np * (3 * np))) (λ n.
-        strength np (constantsIn (now (w .entry)) fo np) (record {
+    requires { ⌜ (fo + 2 * (3 * np * (3 * np * (3 * np))) ≤ so)
+        × (e0 + 2 * (3 * np * (3 * np)) ≤ so)
+        × (e1 + 2 * (3 * np * (3 * np)) ≤ so)
+        × (e2 + 2 * (3 * np * (3 * np)) ≤ so)
+        × (so + 2 * (3 * np * (3 * np)) + 2 * (3 * np) ≤ to)
+        × (to + 3 * np * (3 * np * (3 * np)) ≤ length (now w)) ⌝ }
+    ensures { λ _. ⌜ WroteAbove (now (w .entry)) (now (w .exit)) so (so + 2 * (3 * np * (3 * np)) + 2 * (3 * np)) to
+        (3 * np * (3 * np * (3 * np)))
+        (λ n. strength np (constantsIn (now (w .entry)) fo np)
+        (record {
           leg0 = phononIn (now (w .entry)) e0 (3 * np) (now (freqs0 .entry)) (n / (3 * np) / (3 * np));
           leg1 = phononIn (now (w .entry)) e1 (3 * np) (now (freqs1 .entry)) (n / (3 * np) % (3 * np));
           leg2 = phononIn (now (w .entry)) e2 (3 * np) (now (freqs2 .entry)) (n % (3 * np));

@@ -40,7 +40,8 @@ fn contract_long_row(
     n: usize,
 )
     requires { ⌜ (6 ≤ n) × (n ≤ 3000) × (ro + 2 * n ≤ length (now w)) × (mo + d + n * n ≤ ro) × (vo + vd + n * vs < ro + vs) ⌝ }
-    ensures { λ _. ⌜ WroteSplit (now (w .entry)) (now (w .exit)) ro n n (λ c. dot n (column (now (w .entry)) mo d n c) (strided (now (w .entry)) vo vd vs)) ⌝ }
+    ensures { λ _. ⌜ WroteSplit (now (w .entry)) (now (w .exit)) ro n n
+        (λ c. dot n (column (now (w .entry)) mo d n c) (strided (now (w .entry)) vo vd vs)) ⌝ }
 {
     let mut done: usize = 0;
     while done < n {
@@ -62,7 +63,8 @@ fn contract_short_row(
     vs: usize,
 )
     requires { ⌜ (ro + 6 ≤ length (now w)) × (mo + d + 9 ≤ ro) × (vo + vd + 3 * vs < ro + vs) ⌝ }
-    ensures { λ _. ⌜ WroteSplit (now (w .entry)) (now (w .exit)) ro 3 3 (λ c. dot 3 (column (now (w .entry)) mo d 3 c) (strided (now (w .entry)) vo vd vs)) ⌝ }
+    ensures { λ _. ⌜ WroteSplit (now (w .entry)) (now (w .exit)) ro 3 3
+        (λ c. dot 3 (column (now (w .entry)) mo d 3 c) (strided (now (w .entry)) vo vd vs)) ⌝ }
 {
     let t = dot_three_columns(w, mo, d, vo, vd, vs);
     put_columns(w, ro, 3, &t, 3);
@@ -79,8 +81,13 @@ pub fn contract_row(
     vs: usize,
     np: usize,
 )
-    requires { ⌜ (1 ≤ np) × (np ≤ 1000) × (ro + 2 * (3 * np) ≤ length (now w)) × (mo + d + 3 * np * (3 * np) ≤ ro) × (vo + vd + 3 * np * vs < ro + vs) ⌝ }
-    ensures { λ _. ⌜ WroteSplit (now (w .entry)) (now (w .exit)) ro (3 * np) (3 * np) (λ c. dot (3 * np) (column (now (w .entry)) mo d (3 * np) c) (strided (now (w .entry)) vo vd vs)) ⌝ }
+    requires { ⌜ (1 ≤ np)
+        × (np ≤ 1000)
+        × (ro + 2 * (3 * np) ≤ length (now w))
+        × (mo + d + 3 * np * (3 * np) ≤ ro)
+        × (vo + vd + 3 * np * vs < ro + vs) ⌝ }
+    ensures { λ _. ⌜ WroteSplit (now (w .entry)) (now (w .exit)) ro (3 * np) (3 * np)
+        (λ c. dot (3 * np) (column (now (w .entry)) mo d (3 * np) c) (strided (now (w .entry)) vo vd vs)) ⌝ }
 {
     if np == 1 {
         contract_short_row(w, ro, mo, d, vo, vd, vs);

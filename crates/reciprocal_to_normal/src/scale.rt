@@ -46,8 +46,13 @@ pub fn scale_eigenvectors(
     np: usize,
     g: usize,
 )
-    requires { ⌜ (np ≤ 1000) × (io + np ≤ eo) × (eo + 2 * (3 * np * (3 * np)) ≤ length (now w)) × (2 * ((g + 1) * (3 * np * (3 * np))) ≤ length (now eigenvectors)) ⌝ }
-    ensures { λ _. ⌜ ((n : ℕ) → n < 3 * np → columnIn (now (w .exit)) eo (3 * np) n ≡ column (3 * np) (now (eigenvectors .entry)) (take np (drop io (now (w .entry)))) g n)
+    requires { ⌜ (np ≤ 1000)
+        × (io + np ≤ eo)
+        × (eo + 2 * (3 * np * (3 * np)) ≤ length (now w))
+        × (2 * ((g + 1) * (3 * np * (3 * np))) ≤ length (now eigenvectors)) ⌝ }
+    ensures { λ _. ⌜ ((n : ℕ) → n < 3 * np
+        → columnIn (now (w .exit)) eo (3 * np) n ≡ column (3 * np) (now (eigenvectors .entry))
+        (take np (drop io (now (w .entry)))) g n)
         × Kept (now (w .entry)) (now (w .exit)) eo (eo + 2 * (3 * np * (3 * np))) ⌝ }
 {
     let nb = 3 * np;

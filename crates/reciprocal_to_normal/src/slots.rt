@@ -45,7 +45,8 @@ fn all_flagged(flags: &[u8], nb: usize, b: usize, k: usize) -> bool
 // Writes s to slot `place` unless it is flagged.
 fn fill_slot(out: &mut [f64], flags: &[u8], place: usize, s: f64)
     requires { ⌜ (place < length (now out)) × (place < length (now flags)) ⌝ }
-    ensures { λ _. ⌜ Visited (now (out .entry)) (now (out .exit)) (flagged (now (flags .entry))) (λ n. s) (length (now (out .entry))) (λ n. n ≡ place) ⌝ }
+    ensures { λ _. ⌜ Visited (now (out .entry)) (now (out .exit)) (flagged (now (flags .entry))) (λ n. s)
+        (length (now (out .entry))) (λ n. n ≡ place) ⌝ }
 {
     if is_flagged(flags, place) {
         return;
@@ -67,9 +68,14 @@ fn fill_column(
     z: f64,
     cutoff: f64,
 )
-    requires { ⌜ (k < nb) × ((b + 1) * nb * nb ≤ length (now out)) × (length (now out) ≤ length (now flags)) × (ao + 2 * nb ≤ length (now w)) × (nb ≤ length (now freqs1)) ⌝ }
+    requires { ⌜ (k < nb)
+        × ((b + 1) * nb * nb ≤ length (now out))
+        × (length (now out) ≤ length (now flags))
+        × (ao + 2 * nb ≤ length (now w))
+        × (nb ≤ length (now freqs1)) ⌝ }
     ensures { λ _. ⌜ Visited (now (out .entry)) (now (out .exit)) (flagged (now (flags .entry)))
-        (λ n. strengthFrom cutoff (split (now (w .entry)) ao nb (jOf nb n)) x (at (now (freqs1 .entry)) (jOf nb n)) z) (length (now (out .entry))) (InColumn nb b k nb) ⌝ }
+        (λ n. strengthFrom cutoff (split (now (w .entry)) ao nb (jOf nb n)) x (at (now (freqs1 .entry)) (jOf nb n)) z)
+        (length (now (out .entry))) (InColumn nb b k nb) ⌝ }
 {
     for j in 0..nb {
         let s = strength_of(cutoff, get_split(w, ao, nb, j), x, freqs1[j], z);
@@ -92,9 +98,15 @@ fn fill_from_row(
     z: f64,
     cutoff: f64,
 )
-    requires { ⌜ (nb ≤ 3000) × (j < nb) × (i < length (now out)) × (i < length (now flags)) × (ro + 2 * nb ≤ length (now w)) × (e1 + 2 * (nb * nb) ≤ length (now w)) ⌝ }
+    requires { ⌜ (nb ≤ 3000)
+        × (j < nb)
+        × (i < length (now out))
+        × (i < length (now flags))
+        × (ro + 2 * nb ≤ length (now w))
+        × (e1 + 2 * (nb * nb) ≤ length (now w)) ⌝ }
     ensures { λ _. ⌜ Visited (now (out .entry)) (now (out .exit)) (flagged (now (flags .entry)))
-        (λ n. strengthFrom cutoff (dot nb (split (now (w .entry)) ro nb) (strided (now (w .entry)) (e1 + j) (nb * nb) nb)) x y z) (length (now (out .entry))) (λ n. n ≡ i) ⌝ }
+        (λ n. strengthFrom cutoff (dot nb (split (now (w .entry)) ro nb) (strided (now (w .entry)) (e1 + j) (nb * nb) nb)) x y z)
+        (length (now (out .entry))) (λ n. n ≡ i) ⌝ }
 {
     if is_flagged(flags, i) {
         return;
@@ -118,9 +130,16 @@ fn fill_sparse_column(
     z: f64,
     cutoff: f64,
 )
-    requires { ⌜ (nb ≤ 3000) × (k < nb) × ((b + 1) * nb * nb ≤ length (now out)) × (length (now out) ≤ length (now flags)) × (nb ≤ length (now freqs1)) × (ro + 2 * nb ≤ length (now w)) × (e1 + 2 * (nb * nb) ≤ length (now w)) ⌝ }
+    requires { ⌜ (nb ≤ 3000)
+        × (k < nb)
+        × ((b + 1) * nb * nb ≤ length (now out))
+        × (length (now out) ≤ length (now flags))
+        × (nb ≤ length (now freqs1))
+        × (ro + 2 * nb ≤ length (now w))
+        × (e1 + 2 * (nb * nb) ≤ length (now w)) ⌝ }
     ensures { λ _. ⌜ Visited (now (out .entry)) (now (out .exit)) (flagged (now (flags .entry)))
-        (λ n. strengthFrom cutoff (dot nb (split (now (w .entry)) ro nb) (strided (now (w .entry)) (e1 + jOf nb n) (nb * nb) nb)) x (at (now (freqs1 .entry)) (jOf nb n)) z) (length (now (out .entry))) (InColumn nb b k nb) ⌝ }
+        (λ n. strengthFrom cutoff (dot nb (split (now (w .entry)) ro nb) (strided (now (w .entry)) (e1 + jOf nb n) (nb * nb) nb))
+        x (at (now (freqs1 .entry)) (jOf nb n)) z) (length (now (out .entry))) (InColumn nb b k nb) ⌝ }
 {
     for j in 0..nb {
         fill_from_row(
@@ -175,11 +194,22 @@ fn fill_pair(
     x: f64,
     cutoff: f64,
 )
-    requires { ⌜ (1 ≤ np) × (np ≤ 1000) × (k < 3 * np) × ((b + 1) * (3 * np) * (3 * np) ≤ length (now out)) × (length (now out) ≤ length (now flags)) × (3 * np ≤ length (now freqs1)) × (3 * np ≤ length (now freqs2)) ⌝ }
-    requires { ⌜ (mo + 2 * (3 * np * (3 * np)) ≤ ro) × (e1 + 2 * (3 * np * (3 * np)) ≤ ro) × (e2 + 2 * (3 * np * (3 * np)) ≤ ro) × (ro + 4 * (3 * np) ≤ length (now w)) ⌝ }
+    requires { ⌜ (1 ≤ np)
+        × (np ≤ 1000)
+        × (k < 3 * np)
+        × ((b + 1) * (3 * np) * (3 * np) ≤ length (now out))
+        × (length (now out) ≤ length (now flags))
+        × (3 * np ≤ length (now freqs1))
+        × (3 * np ≤ length (now freqs2)) ⌝ }
+    requires { ⌜ (mo + 2 * (3 * np * (3 * np)) ≤ ro)
+        × (e1 + 2 * (3 * np * (3 * np)) ≤ ro)
+        × (e2 + 2 * (3 * np * (3 * np)) ≤ ro)
+        × (ro + 4 * (3 * np) ≤ length (now w)) ⌝ }
     ensures { λ _. ⌜ Visited (now (out .entry)) (now (out .exit)) (flagged (now (flags .entry)))
-        (planeSlot (3 * np) (split (now (w .entry)) mo (3 * np * (3 * np))) (split (now (w .entry)) e1 (3 * np * (3 * np))) (split (now (w .entry)) e2 (3 * np * (3 * np))) (at (now (freqs1 .entry))) (at (now (freqs2 .entry))) x cutoff)
-        (length (now (out .entry))) (InColumn (3 * np) b k (3 * np)) × Kept (now (w .entry)) (now (w .exit)) ro (ro + 4 * (3 * np)) ⌝ }
+        (planeSlot (3 * np) (split (now (w .entry)) mo (3 * np * (3 * np))) (split (now (w .entry)) e1 (3 * np * (3 * np)))
+        (split (now (w .entry)) e2 (3 * np * (3 * np))) (at (now (freqs1 .entry))) (at (now (freqs2 .entry))) x cutoff)
+        (length (now (out .entry))) (InColumn (3 * np) b k (3 * np))
+        × Kept (now (w .entry)) (now (w .exit)) ro (ro + 4 * (3 * np)) ⌝ }
 {
     let nb = 3 * np;
     let d = nb * nb;
@@ -225,11 +255,21 @@ fn fill_plane(
     x: f64,
     cutoff: f64,
 )
-    requires { ⌜ (1 ≤ np) × (np ≤ 1000) × ((b + 1) * (3 * np) * (3 * np) ≤ length (now out)) × (length (now out) ≤ length (now flags)) × (3 * np ≤ length (now freqs1)) × (3 * np ≤ length (now freqs2)) ⌝ }
-    requires { ⌜ (mo + 2 * (3 * np * (3 * np)) ≤ ro) × (e1 + 2 * (3 * np * (3 * np)) ≤ ro) × (e2 + 2 * (3 * np * (3 * np)) ≤ ro) × (ro + 4 * (3 * np) ≤ length (now w)) ⌝ }
+    requires { ⌜ (1 ≤ np)
+        × (np ≤ 1000)
+        × ((b + 1) * (3 * np) * (3 * np) ≤ length (now out))
+        × (length (now out) ≤ length (now flags))
+        × (3 * np ≤ length (now freqs1))
+        × (3 * np ≤ length (now freqs2)) ⌝ }
+    requires { ⌜ (mo + 2 * (3 * np * (3 * np)) ≤ ro)
+        × (e1 + 2 * (3 * np * (3 * np)) ≤ ro)
+        × (e2 + 2 * (3 * np * (3 * np)) ≤ ro)
+        × (ro + 4 * (3 * np) ≤ length (now w)) ⌝ }
     ensures { λ _. ⌜ Visited (now (out .entry)) (now (out .exit)) (flagged (now (flags .entry)))
-        (planeSlot (3 * np) (split (now (w .entry)) mo (3 * np * (3 * np))) (split (now (w .entry)) e1 (3 * np * (3 * np))) (split (now (w .entry)) e2 (3 * np * (3 * np))) (at (now (freqs1 .entry))) (at (now (freqs2 .entry))) x cutoff)
-        (length (now (out .entry))) (InPlane (3 * np) b (3 * np)) × Kept (now (w .entry)) (now (w .exit)) ro (ro + 4 * (3 * np)) ⌝ }
+        (planeSlot (3 * np) (split (now (w .entry)) mo (3 * np * (3 * np))) (split (now (w .entry)) e1 (3 * np * (3 * np)))
+        (split (now (w .entry)) e2 (3 * np * (3 * np))) (at (now (freqs1 .entry))) (at (now (freqs2 .entry))) x cutoff)
+        (length (now (out .entry))) (InPlane (3 * np) b (3 * np))
+        × Kept (now (w .entry)) (now (w .exit)) ro (ro + 4 * (3 * np)) ⌝ }
 {
     let nb = 3 * np;
     for k in 0..nb {
@@ -270,13 +310,25 @@ pub fn reciprocal_to_normal_squared(
     np: usize,
     cutoff: f64,
 )
-    requires { ⌜ (1 ≤ np) × (np ≤ 1000) × (length (now out) ≡ length (now bands) * (3 * np) * (3 * np)) × (length (now flags) ≡ length (now bands) * (3 * np) * (3 * np)) ⌝ }
-    requires { ⌜ (3 * np ≤ length (now freqs0)) × (3 * np ≤ length (now freqs1)) × (3 * np ≤ length (now freqs2)) × (allWithin (pos 0) (pos (3 * np - 1)) (now bands) ≡ true) ⌝ }
-    requires { ⌜ (fo + 2 * (3 * np * (3 * np * (3 * np))) ≤ so) × (e0 + 2 * (3 * np * (3 * np)) ≤ so) × (e1 + 2 * (3 * np * (3 * np)) ≤ so) × (e2 + 2 * (3 * np * (3 * np)) ≤ so)
+    requires { ⌜ (1 ≤ np)
+        × (np ≤ 1000)
+        × (length (now out) ≡ length (now bands) * (3 * np) * (3 * np))
+        × (length (now flags) ≡ length (now bands) * (3 * np) * (3 * np)) ⌝ }
+    requires { ⌜ (3 * np ≤ length (now freqs0))
+        × (3 * np ≤ length (now freqs1))
+        × (3 * np ≤ length (now freqs2))
+        × (allWithin (pos 0) (pos (3 * np - 1)) (now bands) ≡ true) ⌝ }
+    requires { ⌜ (fo + 2 * (3 * np * (3 * np * (3 * np))) ≤ so)
+        × (e0 + 2 * (3 * np * (3 * np)) ≤ so)
+        × (e1 + 2 * (3 * np * (3 * np)) ≤ so)
+        × (e2 + 2 * (3 * np * (3 * np)) ≤ so)
         × (so + 2 * (3 * np * (3 * np)) + 4 * (3 * np) ≤ length (now w)) ⌝ }
-    ensures { λ _. ⌜ (now (out .exit) ≡ table (length (now (bands .entry)) * (3 * np) * (3 * np)) (λ n. cond (flagged (now (flags .entry)) n) (at (now (out .entry)) n)
-        (strength np (constantsIn (now (w .entry)) fo np) (record {
-          leg0 = phononIn (now (w .entry)) e0 (3 * np) (now (freqs0 .entry)) (index (int (now (bands .entry)) (n / (3 * np) / (3 * np))));
+    ensures { λ _. ⌜ (now (out .exit) ≡ table (length (now (bands .entry)) * (3 * np) * (3 * np))
+        (λ n. cond (flagged (now (flags .entry)) n) (at (now (out .entry)) n)
+        (strength np (constantsIn (now (w .entry)) fo np)
+        (record {
+          leg0 = phononIn (now (w .entry)) e0 (3 * np) (now (freqs0 .entry))
+              (index (int (now (bands .entry)) (n / (3 * np) / (3 * np))));
           leg1 = phononIn (now (w .entry)) e1 (3 * np) (now (freqs1 .entry)) (n / (3 * np) % (3 * np));
           leg2 = phononIn (now (w .entry)) e2 (3 * np) (now (freqs2 .entry)) (n % (3 * np));
         }) cutoff)))

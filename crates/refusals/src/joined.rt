@@ -54,7 +54,39 @@ pub fn check_joined(
     totals: usize,
     work: usize,
 ) -> Checked
-    ensures { λ r. ⌜ ((v u w : List Float) → length v ≡ strengths → length u ≡ totals → length w ≡ work → r ≡ checkedOf (joinedRefusal (record { tables = record { measures = m; settings = settings; symmetry = symmetry; crystal = record { vectors = now (vectors .entry); multiplicity = now (multiplicity .entry); masses = now (masses .entry); forces = record { form = form; p2s = now (p2s .entry); s2p = now (s2p .entry); shortest = now (shortest .entry); nonzero = now (nonzero .entry); constants = now (constants .entry) } }; grid = record { mesh = mesh; matrix = matrix; addresses = now (addresses .entry) }; bands = now (bands .entry); phonons = record { frequencies = now (frequencies .entry); eigenvectors = now (eigenvectors .entry) } }; triplet = triplet; flags = now (flags .entry); bath = bath; first = now (first .entry); second = now (second .entry); strengths = v; totals = u; work = w })) (sizesOf m form)) ⌝ }
+    ensures { λ r. ⌜ ((v u w : List Float) → length v ≡ strengths → length u ≡ totals → length w ≡ work
+        → r ≡ checkedOf
+        (joinedRefusal (record {
+          tables = record {
+            measures = m;
+            settings = settings;
+            symmetry = symmetry;
+            crystal = record {
+              vectors = now (vectors .entry);
+              multiplicity = now (multiplicity .entry);
+              masses = now (masses .entry);
+              forces = record {
+                form = form;
+                p2s = now (p2s .entry);
+                s2p = now (s2p .entry);
+                shortest = now (shortest .entry);
+                nonzero = now (nonzero .entry);
+                constants = now (constants .entry);
+              };
+            };
+            grid = record { mesh = mesh; matrix = matrix; addresses = now (addresses .entry) };
+            bands = now (bands .entry);
+            phonons = record { frequencies = now (frequencies .entry); eigenvectors = now (eigenvectors .entry) };
+          };
+          triplet = triplet;
+          flags = now (flags .entry);
+          bath = bath;
+          first = now (first .entry);
+          second = now (second .entry);
+          strengths = v;
+          totals = u;
+          work = w;
+        })) (sizesOf m form)) ⌝ }
 {
     let Measured::Within(z) = check_measures(m, form) else {
         return Checked::Bad(1);

@@ -23,7 +23,11 @@ pub fn table_lengths_ok(
     nonzero: &[u8],
     constants: &[f64],
 ) -> bool
-    ensures { λ r. ⌜ r ≡ allTrue (lengthTests m z (length (now (addresses .entry))) (length (now (vectors .entry))) (length (now (multiplicity .entry))) (length (now (p2s .entry))) (length (now (s2p .entry))) (length (now (masses .entry))) (length (now (bands .entry))) (length (now (frequencies .entry))) (length (now (eigenvectors .entry))) (length (now (shortest .entry))) (length (now (nonzero .entry))) (length (now (constants .entry)))) ⌝ }
+    ensures { λ r. ⌜ r ≡ allTrue
+        (lengthTests m z (length (now (addresses .entry))) (length (now (vectors .entry))) (length (now (multiplicity .entry)))
+        (length (now (p2s .entry))) (length (now (s2p .entry))) (length (now (masses .entry))) (length (now (bands .entry)))
+        (length (now (frequencies .entry))) (length (now (eigenvectors .entry))) (length (now (shortest .entry)))
+        (length (now (nonzero .entry))) (length (now (constants .entry)))) ⌝ }
 {
     (addresses.len() == z.addresses)
         & (vectors.len() == z.vectors)

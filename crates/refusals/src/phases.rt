@@ -51,7 +51,11 @@ fn pre_phases_ok(
     atoms: usize,
 ) -> bool
     requires { ⌜ Anchored (now vectors) (now multiplicity) (now p2s) atoms ⌝ }
-    ensures { λ r. ⌜ r ≡ prePhasesFor atoms (now (vectors .entry)) (now (multiplicity .entry)) (now (p2s .entry)) (record { leg0 = now (q0 .entry); leg1 = now (q1 .entry); leg2 = now (q2 .entry) }) ⌝ }
+    ensures { λ r. ⌜ r ≡ prePhasesFor atoms (now (vectors .entry)) (now (multiplicity .entry)) (now (p2s .entry)) (record {
+      leg0 = now (q0 .entry);
+      leg1 = now (q1 .entry);
+      leg2 = now (q2 .entry);
+    }) ⌝ }
 {
     for i in 0..atoms {
         let n = 2 * (index_at(p2s, i) * atoms) + 1;
@@ -84,7 +88,8 @@ fn orders_ok(
     atoms: usize,
 ) -> bool
     requires { ⌜ Anchored (now vectors) (now multiplicity) (now p2s) atoms ⌝ }
-    ensures { λ r. ⌜ r ≡ ordersFor atoms symmetry (now (vectors .entry)) (now (multiplicity .entry)) (now (p2s .entry)) (record { leg0 = q0; leg1 = q1; leg2 = q2 }) ⌝ }
+    ensures { λ r. ⌜ r ≡ ordersFor atoms symmetry (now (vectors .entry)) (now (multiplicity .entry)) (now (p2s .entry))
+        (record { leg0 = q0; leg1 = q1; leg2 = q2 }) ⌝ }
 {
     let q = [q0, q1, q2];
     let count = order_count(symmetry);
@@ -114,7 +119,8 @@ pub fn phases_ok(
     p2s: &[i64],
 ) -> bool
     requires { ⌜ Located 3 (now points) (now addresses) × Anchors atoms supercell (now vectors) (now multiplicity) (now p2s) ⌝ }
-    ensures { λ r. ⌜ r ≡ phasesFor atoms supercell symmetry (now (vectors .entry)) (now (multiplicity .entry)) (now (p2s .entry)) (legsAt (record { mesh = mesh; matrix = matrix; addresses = now (addresses .entry) }) (now (points .entry))) ⌝ }
+    ensures { λ r. ⌜ r ≡ phasesFor atoms supercell symmetry (now (vectors .entry)) (now (multiplicity .entry)) (now (p2s .entry))
+        (legsAt (record { mesh = mesh; matrix = matrix; addresses = now (addresses .entry) }) (now (points .entry))) ⌝ }
 {
     let q0 = compute_q_vec(mesh, matrix, addresses, index_at(points, 0));
     let q1 = compute_q_vec(mesh, matrix, addresses, index_at(points, 1));
@@ -141,7 +147,9 @@ pub fn list_phases_ok(
     p2s: &[i64],
 ) -> bool
     requires { ⌜ Located (list * 3) (now triplets) (now addresses) × Anchors atoms supercell (now vectors) (now multiplicity) (now p2s) ⌝ }
-    ensures { λ r. ⌜ r ≡ everyBelow (tripletFine atoms supercell symmetry (record { mesh = mesh; matrix = matrix; addresses = now (addresses .entry) }) (now (vectors .entry)) (now (multiplicity .entry)) (now (p2s .entry)) (now (triplets .entry))) list ⌝ }
+    ensures { λ r. ⌜ r ≡ everyBelow
+        (tripletFine atoms supercell symmetry (record { mesh = mesh; matrix = matrix; addresses = now (addresses .entry) })
+        (now (vectors .entry)) (now (multiplicity .entry)) (now (p2s .entry)) (now (triplets .entry))) list ⌝ }
 {
     for t in 0..list {
         let first = t * 3;

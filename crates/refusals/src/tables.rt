@@ -40,7 +40,8 @@ pub fn tables_finite(
     eigenvectors: &[f64],
     constants: &[f64],
 ) -> bool
-    ensures { λ r. ⌜ r ≡ finiteFor cutoff (now (vectors .entry)) (now (masses .entry)) (now (frequencies .entry)) (now (eigenvectors .entry)) (now (constants .entry)) ⌝ }
+    ensures { λ r. ⌜ r ≡ finiteFor cutoff (now (vectors .entry)) (now (masses .entry)) (now (frequencies .entry))
+        (now (eigenvectors .entry)) (now (constants .entry)) ⌝ }
 {
     checks::is_finite(cutoff)
         & checks::all_finite(vectors)

@@ -47,7 +47,35 @@ pub fn check_triplet(
     strengths: usize,
     work: usize,
 ) -> Checked
-    ensures { λ r. ⌜ ((v w : List Float) → length v ≡ strengths → length w ≡ work → r ≡ checkedOf (tripletRefusal (record { tables = record { measures = m; settings = settings; symmetry = symmetry; crystal = record { vectors = now (vectors .entry); multiplicity = now (multiplicity .entry); masses = now (masses .entry); forces = record { form = form; p2s = now (p2s .entry); s2p = now (s2p .entry); shortest = now (shortest .entry); nonzero = now (nonzero .entry); constants = now (constants .entry) } }; grid = record { mesh = mesh; matrix = matrix; addresses = now (addresses .entry) }; bands = now (bands .entry); phonons = record { frequencies = now (frequencies .entry); eigenvectors = now (eigenvectors .entry) } }; triplet = triplet; flags = now (flags .entry); strengths = v; work = w })) (sizesOf m form)) ⌝ }
+    ensures { λ r. ⌜ ((v w : List Float) → length v ≡ strengths → length w ≡ work
+        → r ≡ checkedOf
+        (tripletRefusal (record {
+          tables = record {
+            measures = m;
+            settings = settings;
+            symmetry = symmetry;
+            crystal = record {
+              vectors = now (vectors .entry);
+              multiplicity = now (multiplicity .entry);
+              masses = now (masses .entry);
+              forces = record {
+                form = form;
+                p2s = now (p2s .entry);
+                s2p = now (s2p .entry);
+                shortest = now (shortest .entry);
+                nonzero = now (nonzero .entry);
+                constants = now (constants .entry);
+              };
+            };
+            grid = record { mesh = mesh; matrix = matrix; addresses = now (addresses .entry) };
+            bands = now (bands .entry);
+            phonons = record { frequencies = now (frequencies .entry); eigenvectors = now (eigenvectors .entry) };
+          };
+          triplet = triplet;
+          flags = now (flags .entry);
+          strengths = v;
+          work = w;
+        })) (sizesOf m form)) ⌝ }
 {
     let Measured::Within(z) = check_measures(m, form) else {
         return Checked::Bad(1);

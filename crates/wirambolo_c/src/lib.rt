@@ -127,7 +127,37 @@ pub extern "C" fn wirambolo_get_interaction_at_triplet(
     strengths: &mut [f64],
     work: &mut [f64],
 ) -> u8
-    ensures { λ r. ⌜ _≡_ {A = Strengths} (record { answer = r; strengths = now (strengths .exit); work = now (work .exit) }) (Foreign.tripletAnswer (Foreign.tablesRead anchoring form symmetry (now (mesh .entry)) (now (matrix .entry)) && eqb (length (now (triplet .entry))) 3) (record { tables = record { measures = record { atoms = atoms; supercell = supercell; first = first; grid = grid; vectors = «vectors_count» }; settings = record { anchoring = Foreign.anchoringOf anchoring; cutoff = cutoff }; symmetry = Foreign.symmetryOf symmetry; crystal = record { vectors = now (vectors .entry); multiplicity = now (multiplicity .entry); masses = now (masses .entry); forces = record { form = Foreign.formOf form; p2s = now (p2s .entry); s2p = now (s2p .entry); shortest = now (shortest .entry); nonzero = now (nonzero .entry); constants = now (constants .entry) } }; grid = record { mesh = now (mesh .entry); matrix = now (matrix .entry); addresses = now (addresses .entry) }; bands = now (bands .entry); phonons = record { frequencies = now (frequencies .entry); eigenvectors = now (eigenvectors .entry) } }; triplet = now (triplet .entry); flags = now (flags .entry); strengths = now (strengths .entry); work = now (work .entry) })) ⌝ }
+    ensures { λ r. ⌜ _≡_ {A = Strengths} (record { answer = r; strengths = now (strengths .exit); work = now (work .exit) })
+        (Foreign.tripletAnswer
+        (Foreign.tablesRead anchoring form symmetry (now (mesh .entry)) (now (matrix .entry))
+        && eqb (length (now (triplet .entry))) 3)
+        (record {
+          tables = record {
+            measures = record { atoms = atoms; supercell = supercell; first = first; grid = grid; vectors = «vectors_count» };
+            settings = record { anchoring = Foreign.anchoringOf anchoring; cutoff = cutoff };
+            symmetry = Foreign.symmetryOf symmetry;
+            crystal = record {
+              vectors = now (vectors .entry);
+              multiplicity = now (multiplicity .entry);
+              masses = now (masses .entry);
+              forces = record {
+                form = Foreign.formOf form;
+                p2s = now (p2s .entry);
+                s2p = now (s2p .entry);
+                shortest = now (shortest .entry);
+                nonzero = now (nonzero .entry);
+                constants = now (constants .entry);
+              };
+            };
+            grid = record { mesh = now (mesh .entry); matrix = now (matrix .entry); addresses = now (addresses .entry) };
+            bands = now (bands .entry);
+            phonons = record { frequencies = now (frequencies .entry); eigenvectors = now (eigenvectors .entry) };
+          };
+          triplet = now (triplet .entry);
+          flags = now (flags .entry);
+          strengths = now (strengths .entry);
+          work = now (work .entry);
+        })) ⌝ }
 {
     if !(are_tables_read(anchoring, form, symmetry, mesh, matrix) & (triplet.len() == 3)) {
         return 255;
@@ -201,7 +231,35 @@ pub extern "C" fn wirambolo_get_interaction(
     strengths: &mut [f64],
     work: &mut [f64],
 ) -> u8
-    ensures { λ r. ⌜ _≡_ {A = Strengths} (record { answer = r; strengths = now (strengths .exit); work = now (work .exit) }) (Foreign.listAnswer (Foreign.tablesRead anchoring form symmetry (now (mesh .entry)) (now (matrix .entry))) (record { tables = record { measures = record { atoms = atoms; supercell = supercell; first = first; grid = grid; vectors = «vectors_count» }; settings = record { anchoring = Foreign.anchoringOf anchoring; cutoff = cutoff }; symmetry = Foreign.symmetryOf symmetry; crystal = record { vectors = now (vectors .entry); multiplicity = now (multiplicity .entry); masses = now (masses .entry); forces = record { form = Foreign.formOf form; p2s = now (p2s .entry); s2p = now (s2p .entry); shortest = now (shortest .entry); nonzero = now (nonzero .entry); constants = now (constants .entry) } }; grid = record { mesh = now (mesh .entry); matrix = now (matrix .entry); addresses = now (addresses .entry) }; bands = now (bands .entry); phonons = record { frequencies = now (frequencies .entry); eigenvectors = now (eigenvectors .entry) } }; list = list; triplets = now (triplets .entry); flags = now (flags .entry); strengths = now (strengths .entry); work = now (work .entry) })) ⌝ }
+    ensures { λ r. ⌜ _≡_ {A = Strengths} (record { answer = r; strengths = now (strengths .exit); work = now (work .exit) })
+        (Foreign.listAnswer (Foreign.tablesRead anchoring form symmetry (now (mesh .entry)) (now (matrix .entry))) (record {
+          tables = record {
+            measures = record { atoms = atoms; supercell = supercell; first = first; grid = grid; vectors = «vectors_count» };
+            settings = record { anchoring = Foreign.anchoringOf anchoring; cutoff = cutoff };
+            symmetry = Foreign.symmetryOf symmetry;
+            crystal = record {
+              vectors = now (vectors .entry);
+              multiplicity = now (multiplicity .entry);
+              masses = now (masses .entry);
+              forces = record {
+                form = Foreign.formOf form;
+                p2s = now (p2s .entry);
+                s2p = now (s2p .entry);
+                shortest = now (shortest .entry);
+                nonzero = now (nonzero .entry);
+                constants = now (constants .entry);
+              };
+            };
+            grid = record { mesh = now (mesh .entry); matrix = now (matrix .entry); addresses = now (addresses .entry) };
+            bands = now (bands .entry);
+            phonons = record { frequencies = now (frequencies .entry); eigenvectors = now (eigenvectors .entry) };
+          };
+          list = list;
+          triplets = now (triplets .entry);
+          flags = now (flags .entry);
+          strengths = now (strengths .entry);
+          work = now (work .entry);
+        })) ⌝ }
 {
     if !are_tables_read(anchoring, form, symmetry, mesh, matrix) {
         return 255;
@@ -262,7 +320,20 @@ pub extern "C" fn wirambolo_imag_self_energy_at_triplet(
     second_weights: &[f64],
     totals: &mut [f64],
 ) -> u8
-    ensures { λ r. ⌜ _≡_ {A = Totals} (record { answer = r; totals = now (totals .exit) }) (Foreign.totalsAnswer (Foreign.known weights && eqb (length (now (triplet .entry))) 3) (record { measures = record { atoms = atoms; first = first; grid = grid }; weights = Foreign.weightsOf weights; triplet = now (triplet .entry); frequencies = now (frequencies .entry); cutoff = cutoff; flags = now (flags .entry); strengths = now (strengths .entry); bath = record { weight = weight; temperature = temperature }; first = now («first_weights» .entry); second = now («second_weights» .entry); totals = now (totals .entry) })) ⌝ }
+    ensures { λ r. ⌜ _≡_ {A = Totals} (record { answer = r; totals = now (totals .exit) })
+        (Foreign.totalsAnswer (Foreign.known weights && eqb (length (now (triplet .entry))) 3) (record {
+          measures = record { atoms = atoms; first = first; grid = grid };
+          weights = Foreign.weightsOf weights;
+          triplet = now (triplet .entry);
+          frequencies = now (frequencies .entry);
+          cutoff = cutoff;
+          flags = now (flags .entry);
+          strengths = now (strengths .entry);
+          bath = record { weight = weight; temperature = temperature };
+          first = now («first_weights» .entry);
+          second = now («second_weights» .entry);
+          totals = now (totals .entry);
+        })) ⌝ }
 {
     if !(is_known(weights) & (triplet.len() == 3)) {
         return 255;
@@ -327,7 +398,42 @@ pub extern "C" fn wirambolo_joined_at_triplet(
     totals: &mut [f64],
     work: &mut [f64],
 ) -> u8
-    ensures { λ r. ⌜ _≡_ {A = Joined} (record { answer = r; strengths = now (strengths .exit); totals = now (totals .exit); work = now (work .exit) }) (Foreign.joinedAnswer (Foreign.tablesRead anchoring form symmetry (now (mesh .entry)) (now (matrix .entry)) && eqb (length (now (triplet .entry))) 3) (record { tables = record { measures = record { atoms = atoms; supercell = supercell; first = first; grid = grid; vectors = «vectors_count» }; settings = record { anchoring = Foreign.anchoringOf anchoring; cutoff = cutoff }; symmetry = Foreign.symmetryOf symmetry; crystal = record { vectors = now (vectors .entry); multiplicity = now (multiplicity .entry); masses = now (masses .entry); forces = record { form = Foreign.formOf form; p2s = now (p2s .entry); s2p = now (s2p .entry); shortest = now (shortest .entry); nonzero = now (nonzero .entry); constants = now (constants .entry) } }; grid = record { mesh = now (mesh .entry); matrix = now (matrix .entry); addresses = now (addresses .entry) }; bands = now (bands .entry); phonons = record { frequencies = now (frequencies .entry); eigenvectors = now (eigenvectors .entry) } }; triplet = now (triplet .entry); flags = now (flags .entry); bath = record { weight = weight; temperature = temperature }; first = now («first_weights» .entry); second = now («second_weights» .entry); strengths = now (strengths .entry); totals = now (totals .entry); work = now (work .entry) })) ⌝ }
+    ensures { λ r. ⌜ _≡_ {A = Joined}
+        (record { answer = r; strengths = now (strengths .exit); totals = now (totals .exit); work = now (work .exit) })
+        (Foreign.joinedAnswer
+        (Foreign.tablesRead anchoring form symmetry (now (mesh .entry)) (now (matrix .entry))
+        && eqb (length (now (triplet .entry))) 3)
+        (record {
+          tables = record {
+            measures = record { atoms = atoms; supercell = supercell; first = first; grid = grid; vectors = «vectors_count» };
+            settings = record { anchoring = Foreign.anchoringOf anchoring; cutoff = cutoff };
+            symmetry = Foreign.symmetryOf symmetry;
+            crystal = record {
+              vectors = now (vectors .entry);
+              multiplicity = now (multiplicity .entry);
+              masses = now (masses .entry);
+              forces = record {
+                form = Foreign.formOf form;
+                p2s = now (p2s .entry);
+                s2p = now (s2p .entry);
+                shortest = now (shortest .entry);
+                nonzero = now (nonzero .entry);
+                constants = now (constants .entry);
+              };
+            };
+            grid = record { mesh = now (mesh .entry); matrix = now (matrix .entry); addresses = now (addresses .entry) };
+            bands = now (bands .entry);
+            phonons = record { frequencies = now (frequencies .entry); eigenvectors = now (eigenvectors .entry) };
+          };
+          triplet = now (triplet .entry);
+          flags = now (flags .entry);
+          bath = record { weight = weight; temperature = temperature };
+          first = now («first_weights» .entry);
+          second = now («second_weights» .entry);
+          strengths = now (strengths .entry);
+          totals = now (totals .entry);
+          work = now (work .entry);
+        })) ⌝ }
 {
     if !(are_tables_read(anchoring, form, symmetry, mesh, matrix) & (triplet.len() == 3)) {
         return 255;

@@ -1,4 +1,4 @@
--- The arrays are long enough; the walks over the pairs that are listed are the totals.
+-- The arrays are long enough.
 use Prim.Native.Nat.{ℕ}
 use mathlib.Core.Path.{_≡_}
 use native.Mathlib.Nat.{mul-le-mul}
@@ -6,79 +6,47 @@ use native.Mathlib.Omega.{arith}
 use lib.ListN.{length, replicate, length-replicate}
 use Rattle.phonon.specs.Number.{f0}
 use borrow.Author.Needs.{needs}
-use Rattle.imag_self_energy.proofs.ListLaws.{pair-totals}
 use Rattle.imag_self_energy.proofs.listed.fill_few.Statement.{statement}
 use Rattle.imag_self_energy.proofs.listed.fill_few.Tie as tie
 
-slice-aggregate-list-pairs : tie.Need-slice-aggregate-list-pairs
-slice-aggregate-list-pairs c = search needs
+slice-aggregate-fill-in : tie.Need-slice-aggregate-fill-in
+slice-aggregate-fill-in c = search needs
 
-list-pairs-requires : tie.Need-list-pairs-requires
-list-pairs-requires c κs =
-    let p = c .before .before .before .before .before .before .pre in
+slice-aggregate-fill-in-2 : tie.Need-slice-aggregate-fill-in-2
+slice-aggregate-fill-in-2 c = search needs
+
+slice-aggregate-fill-in-3 : tie.Need-slice-aggregate-fill-in-3
+slice-aggregate-fill-in-3 c = search needs
+
+slice-aggregate-fill-in-4 : tie.Need-slice-aggregate-fill-in-4
+slice-aggregate-fill-in-4 c = search needs
+
+slice-aggregate-fill-in-5 : tie.Need-slice-aggregate-fill-in-5
+slice-aggregate-fill-in-5 c = search needs
+
+fill-in-requires : tie.Need-fill-in-requires
+fill-in-requires c κs =
+    let p = c .before .before .before .before .before .before .before .before .before .before .before .pre in
     let q = mul-le-mul (p .0) (p .0) in
-    let l : (a : ℕ) → length (replicate 144 a) ≡ 144 = λ a. length-replicate 144 a in
-    (omega (arith, p .0), omega (arith, q, l 0))
-
-slice-aggregate-fill-factors : tie.Need-slice-aggregate-fill-factors
-slice-aggregate-fill-factors c = search needs
-
-slice-aggregate-fill-factors-2 : tie.Need-slice-aggregate-fill-factors-2
-slice-aggregate-fill-factors-2 c = search needs
-
-fill-factors-requires : tie.Need-fill-factors-requires
-fill-factors-requires c κs =
-    let p = c .before .before .before .before .before .before .before .before .before .before .pre in
-    let q = mul-le-mul (p .0) (p .0) in
+    let l : length (replicate {A = ℕ} 144 0) ≡ 144 = length-replicate {A = ℕ} 144 0 in
     let f : length (replicate 144 f0) ≡ 144 = length-replicate 144 f0 in
-    (omega (arith, p .0), omega (arith, q, f), omega (arith, q, f))
-
-slice-aggregate-fill-totals : tie.Need-slice-aggregate-fill-totals
-slice-aggregate-fill-totals c = search needs
-
-slice-aggregate-fill-totals-2 : tie.Need-slice-aggregate-fill-totals-2
-slice-aggregate-fill-totals-2 c = search needs
-
-slice-aggregate-fill-totals-3 : tie.Need-slice-aggregate-fill-totals-3
-slice-aggregate-fill-totals-3 c = search needs
-
-slice-aggregate-fill-totals-4 : tie.Need-slice-aggregate-fill-totals-4
-slice-aggregate-fill-totals-4 c = search needs
-
-slice-aggregate-fill-totals-5 : tie.Need-slice-aggregate-fill-totals-5
-slice-aggregate-fill-totals-5 c = search needs
-
-fill-totals-requires : tie.Need-fill-totals-requires
-fill-totals-requires c κs =
-    let p = c .before .before .before .before .before .before .before .before .before .before .before .before .before .before .before .before .before .before .before .pre in
-    let q = mul-le-mul (p .0) (p .0) in
-    let l : (a : ℕ) → length (replicate 144 a) ≡ 144 = λ a. length-replicate 144 a in
-    let f : length (replicate 144 f0) ≡ 144 = length-replicate 144 f0 in
-    let e = c .before .before .before .before .before .before .before .before .before .before .before .before .list-pairs .ensures in
-    (p .1, e .0, e .1 .places, omega (arith, q, f), omega (arith, q, f), omega (arith, q, l 0), omega (arith, q, l 0))
+    (p .1, omega (arith, q, l), omega (arith, q, l), omega (arith, q, l), omega (arith, q, f), omega (arith, q, f))
 
 same-length : tie.Need-same-length
 same-length c = search needs
 
 returns : tie.Need-returns
-returns c =
-    let a = c .before .before .before .before .before .before .before .before .before .before .before .before .before .before .before .before .before .before .before .before .before .before .before .before .args in
-    pair-totals (a .h) (a .weights) (a .n) (length (a .totals .now)) _ (a .seconds) (a .thirds) (a .flags .now) _ (a .first .now) (a .second .now) (a .strengths .now) _ _ (c .before .before .before .before .before .before .before .before .before .before .before .before .before .fill-factors .ensures) (c .before .before .before .before .before .before .before .before .before .before .before .before .before .before .before .before .before .list-pairs .ensures .1) (c .before .before .before .before .fill-totals .ensures)
+returns c = search needs
 
 pub fill-few-spec : {M : Type 1} → statement M
 fill-few-spec =
     tie.close
     (tie.spec
-    slice-aggregate-list-pairs
-    list-pairs-requires
-    slice-aggregate-fill-factors
-    slice-aggregate-fill-factors-2
-    fill-factors-requires
-    slice-aggregate-fill-totals
-    slice-aggregate-fill-totals-2
-    slice-aggregate-fill-totals-3
-    slice-aggregate-fill-totals-4
-    slice-aggregate-fill-totals-5
-    fill-totals-requires
+    slice-aggregate-fill-in
+    slice-aggregate-fill-in-2
+    slice-aggregate-fill-in-3
+    slice-aggregate-fill-in-4
+    slice-aggregate-fill-in-5
+    fill-in-requires
     same-length
     returns)
