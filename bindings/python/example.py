@@ -2,10 +2,12 @@
 
     python3 bindings/python/example.py
 
-The command that makes the shared object stands at the top of wirambolo.py.
+A set that is turned away prints `refused N`, and the exit status is 1. The command that makes the shared object stands at the top of
+wirambolo.py.
 """
 
 import struct
+import sys
 from array import array
 
 import wirambolo
@@ -34,6 +36,7 @@ def key(flags, strengths, totals):
 
 
 def main():
+    """Prints the key; the exit status."""
     constants = [0.0] * 27
     constants[3 * 1 + 2] = 16.0
     eigenvectors = [0.0] * (2 * BANDS * BANDS)
@@ -82,9 +85,10 @@ def main():
         )
     except wirambolo.Refused as refused:
         print(f"refused {refused.number}")
-        return
+        return 1
     print(key(flags, strengths, totals))
+    return 0
 
 
 if __name__ == "__main__":
-    main()
+    sys.exit(main())

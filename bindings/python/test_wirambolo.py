@@ -7,9 +7,12 @@ import contextlib
 import ctypes
 import io
 import math
+import os
 import struct
 import unittest
 from array import array
+from pathlib import Path
+from unittest import mock
 
 import example
 import wirambolo
@@ -222,17 +225,13 @@ class Tests(unittest.TestCase):
                 self.assertEqual(bits(left["work"]), bits([0.0] * used + [-1.0] * (205 - used)))
 
     def test_key(self):
-        printed = io.StringIO()
-        with contextlib.redirect_stdout(printed):
-            example.main()
-        self.assertEqual(
-            printed.getvalue(),
-            "bands 3\n"
-            "slot 0 1 2 3fe0000000000000\n"
-            "total 0 4008000000000000\n"
-            "total 1 0000000000000000\n"
-            "total 2 0000000000000000\n",
-        )
+        """What the example prints, and its exit status: its set, and one with more first bands than bands."""
+        wanted = (Path(__file__).resolve().parents[1] / "key.txt").read_text(encoding="utf-8")
+        for first, text, status in ((3, wanted, 0), (4, "refused 1\n", 1)):
+            printed = io.StringIO()
+            with mock.patch.object(example, "FIRST", first), contextlib.redirect_stdout(printed):
+                self.assertEqual(example.main(), status)
+            self.assertEqual(printed.getvalue(), text)
 
     def test_refusals(self):
         u = cell_u()
@@ -312,15 +311,27 @@ class Tests(unittest.TestCase):
 
     def test_values_that_do_not_fit(self):
         """ctypes would take 256 as the choice 0, and -1 as a measure."""
-        for change in ({"form": 256}, {"atoms": -1}, {"atoms": 2**64}, {"weight": 2**63}, {"symmetry": -1}):
-            with self.subTest(change=change), self.assertRaises(OverflowError):
-                self.joined(**change)
-        for change in ({"flags": [256] * 27}, {"bands": [2**63, 0, 0]}):
-            with self.subTest(change=change), self.assertRaises(OverflowError):
-                self.joined(**change)
-        for change in ({"bands": [0.0, 1.0, 2.0]}, {"weight": 3.0}, {"masses": array("f", [4.0])}, {"p2s": b"\0" * 8}):
-            with self.subTest(change=change), self.assertRaises(TypeError):
-                self.joined(**change)
+        too_great = [("form", 256), ("atoms", -1), ("atoms", 2**64), ("weight", 2**63), ("symmetry", -1), ("cutoff", 10**400)]
+        too_great += [("flags", [256] * 27), ("bands", [2**63, 0, 0]), ("masses", [10**400])]
+        for name, value in too_great:
+            with self.subTest(name=name, value=value), self.assertRaisesRegex(OverflowError, f"^{name}: "):
+                self.joined(**{name: value})
+
+    def test_values_of_another_type(self):
+        for name, value in (
+            ("bands", [0.0, 1.0, 2.0]),
+            ("weight", 3.0),
+            ("masses", array("f", [4.0])),
+            ("masses", ["4.0"]),
+            ("masses", 4.0),
+            ("p2s", b"\0" * 8),
+            ("cutoff", "0.5"),
+            ("cutoff", b"0.5"),
+            ("cutoff", bytearray(b"0.5")),
+            ("temperature", None),
+        ):
+            with self.subTest(name=name, value=value), self.assertRaisesRegex(TypeError, f"^{name}: "):
+                self.joined(**{name: value})
 
     def test_names(self):
         for change in ({"colour": 1}, {"mesh_length": 3}):
@@ -364,6 +375,36 @@ class Tests(unittest.TestCase):
         self.assertEqual(bits(list(work)), bits([0.0] * 203))
         with self.assertRaises(TypeError):
             self.joined(strengths=memoryview(array("d", [-1.0] * 54))[::2])
+
+    def test_alignment(self):
+        """A buffer that begins between two numbers is turned away, whether it is read or written; a copy is aligned."""
+        for name, value in cell_u().items():
+            if name in ("shortest", "nonzero", "flags") or not hasattr(value, "__len__"):
+                continue
+            code = "q" if isinstance(value[0], int) else "d"
+            shifted = memoryview(bytearray(1) + array(code, value).tobytes())[1:].cast(code)
+            with self.subTest(name=name), self.assertRaisesRegex(TypeError, f"^{name}: "):
+                self.joined(**{name: shifted})
+            if name not in WRITTEN:
+                self.assertEqual(self.joined(**{name: shifted.toreadonly()})[0], 0)
+        # An empty buffer has no numbers that could be unaligned.
+        self.assertEqual(self.joined(vectors=memoryview(bytearray(1))[1:].cast("d"))[0], 2)
+
+    def test_load(self):
+        """By a name without a folder, in the current folder; and what is no file."""
+        path = Path(os.environ.get("WIRAMBOLO_SO") or wirambolo.DEFAULT).resolve()
+        before = os.getcwd()
+        try:
+            os.chdir(path.parent)
+            self.library = wirambolo.load(path.name)
+            with mock.patch.dict(os.environ, WIRAMBOLO_SO=path.name):
+                self.library = wirambolo.load()
+        finally:
+            os.chdir(before)
+        self.assertEqual(self.joined()[0], 0)
+        for missing in (path.parent, path.parent / "nothing.so"):
+            with self.assertRaises(FileNotFoundError):
+                wirambolo.load(missing)
 
     def test_work_length(self):
         self.assertEqual(wirambolo.work_length(1, 1), 203)

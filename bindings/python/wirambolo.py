@@ -13,11 +13,11 @@ it gives, and take their parameters by name:
     library.joined_at_triplet(atoms=1, supercell=1, ..., strengths=strengths, totals=totals, work=work)
 
 What each parameter holds, its length and its limits stand in include/wirambolo.h. A slice for reading is a list or tuple of
-numbers, or anything with a contiguous buffer of the right type (array.array, bytes, a numpy array); no length is handed over,
-it is that of the slice. A slice that is written is such a buffer: array.array('d', ...) or a numpy array of f64.
+numbers, or anything with a contiguous and aligned buffer of the right type (array.array, bytes, a numpy array); no length is handed
+over, it is that of the slice. A slice that is written is such a buffer: array.array('d', ...) or a numpy array of f64.
 
-A set that is turned away raises Refused, whose `number` is the answer; nothing is changed then. During a call no other thread may
-change the slices. The machine must round to nearest and keep subnormal numbers, as it does when Python starts.
+A set that is turned away raises Refused, whose `number` is the answer; nothing is changed then. What cannot be handed over raises
+TypeError, OverflowError or ValueError, which names the parameter. During a call no other thread may change the slices. The machine must round to nearest and keep subnormal numbers, as it does when Python starts.
 """
 
 import array
@@ -177,11 +177,21 @@ def declare(shared_object):
         function.restype = ctypes.c_uint8
 
 
+def _converted(parameter, convert, value):
+    """What `convert` makes of the value. Its errors name the parameter."""
+    try:
+        return convert(value)
+    except OverflowError as error:
+        raise OverflowError(f"{parameter}: {error}") from None
+    except TypeError as error:
+        raise TypeError(f"{parameter}: {error}") from None
+
+
 def _single(parameter, kind, value):
-    """The value, if it fits: ctypes would cut off what does not."""
+    """The value, if it fits: ctypes would cut off what does not. Text is no number."""
     if kind == "f64":
-        return float(value)
-    value = operator.index(value)
+        return _converted(parameter, ctypes.c_double, value).value
+    value = _converted(parameter, operator.index, value)
     if _TYPES[kind](value).value != value:
         raise OverflowError(f"{parameter}: {value} is no {kind}")
     return value
@@ -196,16 +206,20 @@ def _slice(parameter, kind, value):
     except TypeError:
         if written:
             raise TypeError(f"{parameter}: a buffer is wanted, such as array.array('d', ...)") from None
-        view = memoryview(array.array(_TYPECODES[entry], value))
+        view = memoryview(_converted(parameter, lambda numbers: array.array(_TYPECODES[entry], numbers), value))
     size = ctypes.sizeof(_TYPES[entry])
     if view.format.lstrip(_NATIVE) not in _FORMATS[entry] or view.itemsize != size or not view.c_contiguous:
         raise TypeError(f"{parameter}: a contiguous buffer of {entry} is wanted")
     if written and view.readonly:
         raise TypeError(f"{parameter}: the buffer is only for reading")
     kind_of_array = _TYPES[entry] * (view.nbytes // size)
-    if view.readonly:
+    # A copy is aligned. An empty buffer may begin anywhere.
+    if view.readonly or view.nbytes == 0:
         return kind_of_array.from_buffer_copy(view)
-    return kind_of_array.from_buffer(view)
+    lent = kind_of_array.from_buffer(view)
+    if ctypes.addressof(lent) % ctypes.alignment(lent) != 0:
+        raise TypeError(f"{parameter}: the buffer is not aligned for {entry}")
+    return lent
 
 
 def _range(lent):
@@ -226,7 +240,8 @@ class Library:
     """The four functions of a shared object. They may be called from several threads, each with its own written slices."""
 
     def __init__(self, path):
-        self._shared_object = ctypes.CDLL(os.fspath(path))
+        # A name without a folder would be looked for among the system's libraries.
+        self._shared_object = ctypes.CDLL(os.path.abspath(path))
         declare(self._shared_object)
 
     def get_interaction_at_triplet(self, **arguments):
@@ -267,12 +282,14 @@ class Library:
             raise Refused(number)
 
 
+DEFAULT = Path(__file__).resolve().parents[2] / "target" / "shared" / "libwirambolo.so"
+
+
 def load(path=None):
     """The library at `path`, else at WIRAMBOLO_SO, else in target/shared of the repository."""
     if path is None:
-        default = Path(__file__).resolve().parents[2] / "target" / "shared" / "libwirambolo.so"
-        path = os.environ.get("WIRAMBOLO_SO") or default
-    if not Path(path).exists():
+        path = os.environ.get("WIRAMBOLO_SO") or DEFAULT
+    if not Path(path).is_file():
         raise FileNotFoundError(
             f"{path} is not there. Build the static library with `rt staticlib wirambolo_c` and make the shared object"
             " by the command at the top of bindings/python/wirambolo.py, or name it in WIRAMBOLO_SO."
