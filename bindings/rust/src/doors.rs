@@ -14,6 +14,10 @@ use crate::sets::{JoinedSet, ListSet, Tables, TotalsSet, TripletSet};
 ///
 /// Every refusal but [`Bath`](Refusal::Bath). Nothing is changed then.
 ///
+/// # Panics
+///
+/// If the library answers a number that is none of [`Refusal`]'s: it is of another edition than this crate.
+///
 /// # Examples
 ///
 /// ```
@@ -80,16 +84,21 @@ pub fn get_interaction_at_triplet(
 ///
 /// Every refusal but [`Bath`](Refusal::Bath). Nothing is changed then.
 ///
+/// # Panics
+///
+/// If the library answers a number that is none of [`Refusal`]'s: it is of another edition than this crate.
+///
 /// # Examples
 ///
 /// ```
 /// # use wirambolo::*;
+/// /// Measures and list within their limits: beyond them, a buffer may be longer than memory is.
 /// fn strengths_of(tables: Tables, triplets: &[[i64; 3]]) -> Result<Vec<f64>, Refusal> {
-///     let lengths = Lengths::of(&tables.measures, tables.form);
-///     let slots = lengths.slots * triplets.len();
+///     let Measures { atoms, supercell, first, .. } = tables.measures;
+///     let slots = list_slots(atoms, first, triplets.len());
 ///     let set = ListSet { tables, triplets, flags: &vec![0; slots] };
 ///     let mut strengths = vec![0.0; slots];
-///     let mut work = vec![0.0; lengths.work];
+///     let mut work = vec![0.0; work_length(atoms, supercell)];
 ///     get_interaction(&set, &mut strengths, &mut work)?;
 ///     Ok(strengths)
 /// }
@@ -118,6 +127,10 @@ pub fn get_interaction(
 ///
 /// [`Measure`](Refusal::Measure), [`Length`](Refusal::Length), [`Index`](Refusal::Index), [`NotFinite`](Refusal::NotFinite) (an infinite
 /// strength or a NaN too), [`Cutoff`](Refusal::Cutoff), [`Bath`](Refusal::Bath). Nothing is changed then.
+///
+/// # Panics
+///
+/// If the library answers a number that is none of [`Refusal`]'s: it is of another edition than this crate.
 ///
 /// # Examples
 ///
@@ -170,6 +183,10 @@ pub fn imag_self_energy_at_triplet(set: &TotalsSet<'_>, totals: &mut [f64]) -> R
 /// # Errors
 ///
 /// Every refusal. Nothing is changed then.
+///
+/// # Panics
+///
+/// If the library answers a number that is none of [`Refusal`]'s: it is of another edition than this crate.
 ///
 /// # Examples
 ///
@@ -224,6 +241,6 @@ fn answer(number: u8) -> Result<(), Refusal> {
     }
     match Refusal::from_number(number) {
         Some(refusal) => Err(refusal),
-        None => panic!("libwirambolo_c.a answered {number}: it is not the library of this crate"),
+        None => panic!("libwirambolo_c.a answered {number}: it is of another edition"),
     }
 }

@@ -7,48 +7,71 @@
 use crate::raw;
 use crate::sets::{Bath, Measures, TotalsMeasures};
 
-/// [`Tables`](crate::Tables) with choices as numbers and arrays as slices.
+/// [`Tables`](crate::Tables) with choices as numbers and arrays as slices. Layouts and lengths stand there.
 #[derive(Clone, Copy, Debug, PartialEq)]
-#[allow(missing_docs)]
 pub struct FlatTables<'a> {
+    /// P, S, F, G and V.
     pub measures: Measures,
     /// 0 plain, 1 averaged.
     pub anchoring: u8,
+    /// Frequencies at or below it are cut off.
     pub cutoff: f64,
     /// 0 compact, 1 full.
     pub form: u8,
     /// 0 off, 1 symmetrized.
     pub symmetry: u8,
+    /// Divisions of the mesh: 3 entries.
     pub mesh: &'a [i64],
+    /// The q matrix by rows: 9 entries.
     pub matrix: &'a [i64],
+    /// Addresses of the grid points.
     pub addresses: &'a [i64],
+    /// Shortest vectors.
     pub vectors: &'a [f64],
+    /// How many vectors lead from an atom to a supercell atom, and the first of them.
     pub multiplicity: &'a [i64],
+    /// Each atom as an atom of the supercell.
     pub p2s: &'a [i64],
+    /// The supercell atom that each supercell atom is an image of.
     pub s2p: &'a [i64],
+    /// Mass of each atom.
     pub masses: &'a [f64],
+    /// The first bands.
     pub bands: &'a [i64],
+    /// Frequency of each band at each grid point.
     pub frequencies: &'a [f64],
+    /// Components of each band at each grid point, real part and imaginary part.
     pub eigenvectors: &'a [f64],
+    /// Whether an atom and two supercell atoms are all shortest.
     pub shortest: &'a [u8],
+    /// 0 if a row has no force constants for two supercell atoms.
     pub nonzero: &'a [u8],
+    /// The force constants.
     pub constants: &'a [f64],
 }
 
-/// [`TotalsSet`](crate::TotalsSet) with the form of the weights as a number and the triplet as a slice.
+/// [`TotalsSet`](crate::TotalsSet) with the form of the weights as a number and the triplet as a slice. Layouts and lengths stand there.
 #[derive(Clone, Copy, Debug, PartialEq)]
-#[allow(missing_docs)]
 pub struct FlatTotals<'a> {
+    /// P, F and G.
     pub measures: TotalsMeasures,
     /// 0 per slot, 1 at a frequency point.
     pub weights: u8,
+    /// Grid point of each leg: 3 entries.
     pub triplet: &'a [i64],
+    /// Frequency of each band at each grid point.
     pub frequencies: &'a [f64],
+    /// Frequencies at or below it are cut off.
     pub cutoff: f64,
+    /// Set (not 0) if the slot is left out.
     pub flags: &'a [u8],
+    /// Strength of each slot.
     pub strengths: &'a [f64],
+    /// The triplet's weight and the temperature.
     pub bath: Bath,
+    /// g1 of each slot.
     pub first_weights: &'a [f64],
+    /// g2 − g3 of each slot.
     pub second_weights: &'a [f64],
 }
 

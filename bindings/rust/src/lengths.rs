@@ -17,6 +17,15 @@ pub const fn slots(atoms: usize, first: usize) -> usize {
     first.saturating_mul(pairs(atoms))
 }
 
+/// F·B·B for each triplet: the slots of a list.
+///
+/// ```
+/// assert_eq!(wirambolo::list_slots(2, 6, 10), 10 * 6 * 6 * 6);
+/// ```
+pub const fn list_slots(atoms: usize, first: usize, list: usize) -> usize {
+    list.saturating_mul(slots(atoms, first))
+}
+
 /// (b·B + j)·B + k: the number of slot (b, j, k).
 ///
 /// ```

@@ -27,7 +27,7 @@
 //! bands; R = P rows of force constants if the form is compact, S if it is full. Slot (b, j, k) is position b of the bands table at
 //! the triplet's first grid point, band j at its second and band k at its third; its number is (b·B + j)·B + k ([`slot`]).
 
-#![warn(missing_docs)]
+#![deny(missing_docs)]
 
 mod doors;
 pub mod flat;
@@ -39,7 +39,7 @@ mod sets;
 pub use doors::{
     get_interaction, get_interaction_at_triplet, imag_self_energy_at_triplet, joined_at_triplet,
 };
-pub use lengths::{bands, pairs, slot, slots, work_length, Lengths};
+pub use lengths::{bands, list_slots, pairs, slot, slots, work_length, Lengths};
 pub use refusal::Refusal;
 pub use sets::{
     Anchoring, Bath, Form, JoinedSet, ListSet, Measures, Settings, Symmetry, Tables,

@@ -4,7 +4,9 @@ use std::error::Error;
 use std::fmt;
 
 /// Why a set is turned away. Of 1 to 9 the lowest that applies is given, over the whole set; a function tests what it is handed.
+/// Later editions may have more numbers.
 #[derive(Clone, Copy, Debug, PartialEq, Eq, Hash)]
+#[non_exhaustive]
 #[repr(u8)]
 pub enum Refusal {
     /// A measure is beyond its limits.
@@ -34,7 +36,7 @@ use Refusal::*;
 
 impl Refusal {
     /// Every refusal, by rising number.
-    pub const ALL: [Refusal; 10] = [
+    pub const ALL: &'static [Refusal] = &[
         Measure, Length, Index, NotFinite, Mesh, Mass, Cutoff, Bath, Phase, Unreadable,
     ];
 
@@ -46,7 +48,8 @@ impl Refusal {
     /// The refusal of a number; none of 0 and of numbers that the library does not answer.
     pub fn from_number(number: u8) -> Option<Refusal> {
         Refusal::ALL
-            .into_iter()
+            .iter()
+            .copied()
             .find(|refusal| refusal.number() == number)
     }
 

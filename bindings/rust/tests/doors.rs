@@ -151,6 +151,10 @@ fn lengths() {
     assert_eq!(work_length(1, most / 2 + 1), most);
     assert_eq!(work_length(0, most), 0);
     assert_eq!(slots(most, 0), 0);
+    assert_eq!(list_slots(2, 7, 5), 5 * 7 * 6 * 6);
+    assert_eq!(list_slots(1, 1, most / 8 + 2), most);
+    assert_eq!(list_slots(most, most, 0), 0);
+    assert_eq!(list_slots(0, most, most), 0);
     assert_eq!(slot(1, most, 0, 0), most);
     let measures = Measures {
         atoms: most,

@@ -254,7 +254,7 @@ fn limits() {
 
 #[test]
 fn numbers_and_words() {
-    for refusal in Refusal::ALL {
+    for &refusal in Refusal::ALL {
         assert_eq!(Refusal::from_number(refusal.number()), Some(refusal));
     }
     let numbers: Vec<u8> = (0..=255)
