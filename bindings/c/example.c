@@ -1,5 +1,6 @@
 /*
- * Cell U of the key cases with every slot flagged but (0, 1, 2), worked through the joined door; prints its key.
+ * Cell U of the key cases with every slot flagged but (0, 1, 2), worked through the joined function; prints its key.
+ * A set that is turned away prints `refused N`, and the exit status is 1.
  * `make -C bindings/c` builds and runs it. From the top of the repository, by hand:
  *
  *     gcc -std=c99 -Wall -Wextra -pedantic -Iinclude -o target/example bindings/c/example.c target/staticlib/libwirambolo_c.a

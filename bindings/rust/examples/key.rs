@@ -1,7 +1,10 @@
 //! Cell U of the key cases with every slot flagged but (0, 1, 2), worked through the joined function; prints its key.
 //!
 //!     cargo run --offline --example key
+//!
+//! A set that is turned away prints `refused N`, and the exit status is 1.
 
+use std::process::ExitCode;
 use wirambolo::*;
 
 const MEASURES: Measures = Measures {
@@ -13,7 +16,7 @@ const MEASURES: Measures = Measures {
 };
 const LENGTHS: Lengths = Lengths::of(&MEASURES, Form::Compact);
 
-fn main() {
+fn main() -> ExitCode {
     let mut constants = [0.0; LENGTHS.constants];
     constants[3 + 2] = 16.0;
     let mut eigenvectors = [0.0; LENGTHS.eigenvectors];
@@ -60,8 +63,14 @@ fn main() {
     let mut totals = [0.0; LENGTHS.totals];
     let mut work = [0.0; LENGTHS.work];
     match joined_at_triplet(&set, &mut strengths, &mut totals, &mut work) {
-        Ok(()) => print_key(&flags, &strengths, &totals),
-        Err(refusal) => println!("refused {}", refusal.number()),
+        Ok(()) => {
+            print_key(&flags, &strengths, &totals);
+            ExitCode::SUCCESS
+        }
+        Err(refusal) => {
+            println!("refused {}", refusal.number());
+            ExitCode::FAILURE
+        }
     }
 }
 
