@@ -1,4 +1,4 @@
-/* Tests of wirambolo.h: lengths, answers, and what a call leaves. C99 and C++. `make -C bindings/c test` runs it. */
+/* Tests of wirambolo.h: lengths, answers, and what a call leaves of cell U and of a crystal. C99 and C++. `make -C bindings/c test` runs it. */
 
 #include <math.h>
 #include <stdint.h>
@@ -20,9 +20,21 @@ static void check(int holds, const char *condition, int line)
     }
 }
 
-/* ---- cell U */
+/* ---- sets */
 
-enum { SLOTS = 27, LIST = 2, WORK = 205, USED = 203 };
+enum {
+    SLOTS = 27, /* of cell U */
+    LIST = 2,
+    /* at most, which is what the crystal has */
+    P = 2,
+    S = 3,
+    F = 4,
+    G = 5,
+    V = 7,
+    B = 3 * P,
+    MOST_SLOTS = F * B * B,
+    MOST_WORK = 135 * P * P * P + 54 * P * P + 6 * P * S + 8 * P + 2
+};
 
 /* All that the four functions are handed, and what is written. */
 struct set {
@@ -31,13 +43,16 @@ struct set {
     double cutoff;
     int64_t weight;
     double temperature;
-    int64_t mesh[3], matrix[9], triplet[3], triplets[3 * LIST], addresses[3], multiplicity[2], p2s[1], s2p[1], bands[3];
-    double vectors[3], masses[1], frequencies[3], eigenvectors[18], constants[27];
-    double first_weights[SLOTS], second_weights[SLOTS], read_strengths[SLOTS];
-    uint8_t shortest[1], nonzero[1], flags[LIST * SLOTS];
-    double strengths[LIST * SLOTS], totals[3], work[WORK];
-    /* lengths that a test changes */
-    size_t mesh_length, matrix_length, triplet_length, bands_length, slots, totals_length, work_length;
+    int64_t mesh[3], matrix[9], triplet[3], triplets[3 * LIST], addresses[3 * G], multiplicity[2 * S * P], p2s[P], s2p[S], bands[F];
+    double vectors[3 * V], masses[P], frequencies[G * B], eigenvectors[2 * G * B * B], constants[27 * S * S * S];
+    double first_weights[MOST_SLOTS], second_weights[MOST_SLOTS], read_strengths[MOST_SLOTS];
+    uint8_t shortest[P * S * S], nonzero[S * S * S], flags[LIST * MOST_SLOTS];
+    double strengths[LIST * MOST_SLOTS], totals[F], work[MOST_WORK];
+    /* what is handed over as the length of each; slots: of the arrays with an entry for each slot of one triplet */
+    struct {
+        size_t mesh, matrix, triplet, triplets, addresses, multiplicity, p2s, s2p, bands;
+        size_t vectors, masses, frequencies, eigenvectors, constants, shortest, nonzero, slots, totals, work;
+    } lengths;
 };
 
 static void fill(double *numbers, size_t count, double x)
@@ -47,14 +62,43 @@ static void fill(double *numbers, size_t count, double x)
     }
 }
 
-/* Strengths, totals and work at -1.0. */
-static struct set cell_u(void)
+/* All zero but the measures. The lengths of these measures, work two numbers longer than W; strengths, totals and work at -1.0. */
+static struct set sized(size_t atoms, size_t supercell, size_t first, size_t grid, size_t vectors_count, uint8_t form)
 {
     struct set s;
     memset(&s, 0, sizeof s);
-    s.atoms = s.supercell = s.grid = s.vectors_count = 1;
-    s.first = 3;
+    s.atoms = atoms;
+    s.supercell = supercell;
+    s.first = first;
+    s.grid = grid;
+    s.vectors_count = vectors_count;
     s.list = LIST;
+    s.form = form;
+    s.lengths.mesh = s.lengths.triplet = 3;
+    s.lengths.matrix = 9;
+    s.lengths.triplets = wirambolo_triplets_length(LIST);
+    s.lengths.addresses = wirambolo_addresses_length(grid);
+    s.lengths.vectors = wirambolo_vectors_length(vectors_count);
+    s.lengths.multiplicity = wirambolo_multiplicity_length(atoms, supercell);
+    s.lengths.p2s = s.lengths.masses = atoms;
+    s.lengths.s2p = supercell;
+    s.lengths.bands = s.lengths.totals = first;
+    s.lengths.frequencies = wirambolo_frequencies_length(atoms, grid);
+    s.lengths.eigenvectors = wirambolo_eigenvectors_length(atoms, grid);
+    s.lengths.shortest = wirambolo_shortest_length(atoms, supercell);
+    s.lengths.nonzero = wirambolo_nonzero_length(atoms, supercell, form);
+    s.lengths.constants = wirambolo_constants_length(atoms, supercell, form);
+    s.lengths.slots = wirambolo_slots(atoms, first);
+    s.lengths.work = wirambolo_work_length(atoms, supercell) + 2;
+    fill(s.strengths, LIST * s.lengths.slots, -1.0);
+    fill(s.totals, s.lengths.totals, -1.0);
+    fill(s.work, s.lengths.work, -1.0);
+    return s;
+}
+
+static struct set cell_u(void)
+{
+    struct set s = sized(1, 1, 3, 1, 1, WIRAMBOLO_COMPACT);
     s.cutoff = 0.5;
     s.weight = 3;
     for (size_t n = 0; n < 3; n++) {
@@ -70,56 +114,111 @@ static struct set cell_u(void)
     s.constants[5] = 16.0;
     s.read_strengths[5] = 0.5;
     fill(s.first_weights, SLOTS, 2.0);
-    fill(s.strengths, LIST * SLOTS, -1.0);
-    fill(s.totals, 3, -1.0);
-    fill(s.work, WORK, -1.0);
-    s.mesh_length = s.triplet_length = s.bands_length = s.totals_length = 3;
-    s.matrix_length = 9;
-    s.slots = SLOTS;
-    s.work_length = WORK;
     return s;
 }
 
-#define ALL(array) (array), sizeof (array) / sizeof (array)[0]
+/* Numbers between -1 and 1 with full mantissas, by the rule of bindings/rust/tests/common. */
+static void spread(double *numbers, size_t count, uint64_t seed)
+{
+    for (size_t n = 0; n < count; n++) {
+        seed = seed * UINT64_C(6364136223846793005) + UINT64_C(1442695040888963407);
+        numbers[n] = (double)(seed >> 11) / 4503599627370496.0 - 1.0;
+    }
+}
+
+static void positive(double *numbers, size_t count, uint64_t seed)
+{
+    spread(numbers, count, seed);
+    for (size_t n = 0; n < count; n++) {
+        numbers[n] = (numbers[n] < 0.0 ? -numbers[n] : numbers[n]) + 0.5;
+    }
+}
+
+/* The crystal of bindings/rust/tests/common. Its measures all differ, so that no array can stand in for another. */
+static struct set crystal(uint8_t form)
+{
+    static const int64_t mesh[3] = {2, 3, 4};
+    static const int64_t matrix[9] = {1, 0, -1, 2, 1, 0, 0, -3, 1};
+    static const int64_t triplets[3 * LIST] = {1, 2, 3, 0, 4, 2};
+    static const int64_t addresses[3 * G] = {0, 0, 0, 1, 2, 3, -1, 0, 2, 1, 1, 1, 0, -2, 3};
+    static const int64_t multiplicity[2 * S * P] = {1, 0, 2, 1, 3, 3, 1, 6, 2, 5, 1, 2};
+    static const int64_t p2s[P] = {0, 2};
+    static const int64_t s2p[S] = {0, 0, 2};
+    static const int64_t bands[F] = {5, 0, 3, 3};
+    struct set s = sized(P, S, F, G, V, form);
+    s.cutoff = 0.625;
+    s.weight = 2;
+    memcpy(s.mesh, mesh, sizeof mesh);
+    memcpy(s.matrix, matrix, sizeof matrix);
+    memcpy(s.triplet, triplets, sizeof s.triplet);
+    memcpy(s.triplets, triplets, sizeof triplets);
+    memcpy(s.addresses, addresses, sizeof addresses);
+    memcpy(s.multiplicity, multiplicity, sizeof multiplicity);
+    memcpy(s.p2s, p2s, sizeof p2s);
+    memcpy(s.s2p, s2p, sizeof s2p);
+    memcpy(s.bands, bands, sizeof bands);
+    spread(s.vectors, s.lengths.vectors, 1);
+    positive(s.masses, s.lengths.masses, 2);
+    positive(s.frequencies, s.lengths.frequencies, 3);
+    spread(s.eigenvectors, s.lengths.eigenvectors, 4);
+    spread(s.constants, s.lengths.constants, 5);
+    positive(s.first_weights, s.lengths.slots, 6);
+    spread(s.second_weights, s.lengths.slots, 7);
+    for (size_t n = 0; n < s.lengths.shortest; n++) {
+        s.shortest[n] = n % 4 == 1;
+    }
+    for (size_t n = 0; n < s.lengths.nonzero; n++) {
+        s.nonzero[n] = n % 5 != 2;
+    }
+    for (size_t n = 0; n < s.lengths.slots; n++) {
+        s.flags[n] = s.flags[s.lengths.slots + n] = n % 3 == 0;
+    }
+    return s;
+}
+
+/* ---- the four functions on a set */
+
+/* An array and its length. */
+#define LENT(s, array) (s)->array, (s)->lengths.array
+
+/* An array with an entry for each slot of one triplet. */
+#define SLOTTED(s, array) (s)->array, (s)->lengths.slots
+
+/* What stands before the triplets, and what stands between them and the flags. */
+#define BEFORE(s) \
+    (s)->atoms, (s)->supercell, (s)->first, (s)->grid, (s)->vectors_count, (s)->anchoring, (s)->cutoff, (s)->form, \
+    (s)->symmetry, LENT(s, mesh), LENT(s, matrix)
+#define TABLES(s) \
+    LENT(s, addresses), LENT(s, vectors), LENT(s, multiplicity), LENT(s, p2s), LENT(s, s2p), LENT(s, masses), \
+    LENT(s, bands), LENT(s, frequencies), LENT(s, eigenvectors), LENT(s, shortest), LENT(s, nonzero), LENT(s, constants)
 
 static uint8_t triplet_door(struct set *s)
 {
     return wirambolo_get_interaction_at_triplet(
-        s->atoms, s->supercell, s->first, s->grid, s->vectors_count, s->anchoring, s->cutoff, s->form, s->symmetry,
-        s->mesh, s->mesh_length, s->matrix, s->matrix_length, s->triplet, s->triplet_length, ALL(s->addresses),
-        ALL(s->vectors), ALL(s->multiplicity), ALL(s->p2s), ALL(s->s2p), ALL(s->masses), s->bands, s->bands_length,
-        ALL(s->frequencies), ALL(s->eigenvectors), ALL(s->shortest), ALL(s->nonzero), ALL(s->constants),
-        s->flags, s->slots, s->strengths, s->slots, s->work, s->work_length);
+        BEFORE(s), LENT(s, triplet), TABLES(s), SLOTTED(s, flags), SLOTTED(s, strengths), LENT(s, work));
 }
 
 static uint8_t list_door(struct set *s)
 {
+    size_t slots = LIST * s->lengths.slots;
     return wirambolo_get_interaction(
-        s->atoms, s->supercell, s->first, s->grid, s->vectors_count, s->anchoring, s->cutoff, s->form, s->symmetry,
-        s->mesh, s->mesh_length, s->matrix, s->matrix_length, s->list, ALL(s->triplets), ALL(s->addresses),
-        ALL(s->vectors), ALL(s->multiplicity), ALL(s->p2s), ALL(s->s2p), ALL(s->masses), s->bands, s->bands_length,
-        ALL(s->frequencies), ALL(s->eigenvectors), ALL(s->shortest), ALL(s->nonzero), ALL(s->constants),
-        s->flags, LIST * s->slots, s->strengths, LIST * s->slots, s->work, s->work_length);
+        BEFORE(s), s->list, LENT(s, triplets), TABLES(s), s->flags, slots, s->strengths, slots, LENT(s, work));
 }
 
 static uint8_t totals_door(struct set *s)
 {
-    size_t entries = s->weights == WIRAMBOLO_AT_FREQUENCY_POINT ? wirambolo_pairs(s->atoms) : s->slots;
+    size_t entries = s->weights == WIRAMBOLO_AT_FREQUENCY_POINT ? wirambolo_pairs(s->atoms) : s->lengths.slots;
     return wirambolo_imag_self_energy_at_triplet(
-        s->atoms, s->first, s->grid, s->weights, s->triplet, s->triplet_length, ALL(s->frequencies), s->cutoff,
-        s->flags, entries, s->read_strengths, s->slots, s->weight, s->temperature, s->first_weights, entries,
-        s->second_weights, entries, s->totals, s->totals_length);
+        s->atoms, s->first, s->grid, s->weights, LENT(s, triplet), LENT(s, frequencies), s->cutoff, s->flags, entries,
+        SLOTTED(s, read_strengths), s->weight, s->temperature, s->first_weights, entries, s->second_weights, entries,
+        LENT(s, totals));
 }
 
 static uint8_t joined_door(struct set *s)
 {
     return wirambolo_joined_at_triplet(
-        s->atoms, s->supercell, s->first, s->grid, s->vectors_count, s->anchoring, s->cutoff, s->form, s->symmetry,
-        s->mesh, s->mesh_length, s->matrix, s->matrix_length, s->triplet, s->triplet_length, ALL(s->addresses),
-        ALL(s->vectors), ALL(s->multiplicity), ALL(s->p2s), ALL(s->s2p), ALL(s->masses), s->bands, s->bands_length,
-        ALL(s->frequencies), ALL(s->eigenvectors), ALL(s->shortest), ALL(s->nonzero), ALL(s->constants),
-        s->flags, s->slots, s->weight, s->temperature, s->first_weights, s->slots, s->second_weights, s->slots,
-        s->strengths, s->slots, s->totals, s->totals_length, s->work, s->work_length);
+        BEFORE(s), LENT(s, triplet), TABLES(s), SLOTTED(s, flags), s->weight, s->temperature, SLOTTED(s, first_weights),
+        SLOTTED(s, second_weights), SLOTTED(s, strengths), LENT(s, totals), LENT(s, work));
 }
 
 /* ---- comparing by bits */
@@ -147,12 +246,13 @@ static int totals_are(const struct set *s, double t0, double t1, double t2)
     return same(s->totals, wanted, 3);
 }
 
+/* The first W entries of work at +0.0, the others as they were. */
 static int work_cleared(const struct set *s)
 {
-    double wanted[WORK];
-    fill(wanted, WORK, -1.0);
-    fill(wanted, USED, 0.0);
-    return same(s->work, wanted, WORK);
+    double wanted[MOST_WORK];
+    fill(wanted, s->lengths.work, -1.0);
+    fill(wanted, wirambolo_work_length(s->atoms, s->supercell), 0.0);
+    return same(s->work, wanted, s->lengths.work);
 }
 
 /* Whether the call answers so and leaves every byte of the set, as for a set turned away. */
@@ -288,6 +388,53 @@ static void accepted(void)
     CHECK(totals_are(&s, 6.0, 3.0, 0.0));
 }
 
+/* FNV-1a, 64 bits, over the bits of each number, lowest byte first. */
+static uint64_t digested(uint64_t state, const double *numbers, size_t count)
+{
+    for (size_t n = 0; n < count; n++) {
+        uint64_t bits;
+        memcpy(&bits, &numbers[n], sizeof bits);
+        for (int byte = 0; byte < 8; byte++) {
+            state = (state ^ (bits >> (8 * byte) & 0xff)) * UINT64_C(0x100000001b3);
+        }
+    }
+    return state;
+}
+
+/* The crystal in each of its settings. */
+static void crystals(void)
+{
+    static const double temperatures[2] = {0.0, 1.75};
+    uint64_t digest = UINT64_C(0xcbf29ce484222325);
+    for (unsigned n = 0; n < 16; n++) {
+        struct set joined = crystal(n & 8 ? WIRAMBOLO_FULL : WIRAMBOLO_COMPACT);
+        struct set other;
+        size_t slots = joined.lengths.slots;
+        joined.anchoring = n & 4 ? WIRAMBOLO_AVERAGED : WIRAMBOLO_PLAIN;
+        joined.symmetry = n & 2 ? WIRAMBOLO_SYMMETRIZED : WIRAMBOLO_SYMMETRY_OFF;
+        joined.temperature = temperatures[n & 1];
+        other = joined;
+        CHECK(joined_door(&joined) == WIRAMBOLO_ACCEPTED);
+        CHECK(work_cleared(&joined));
+        digest = digested(digest, joined.strengths, slots);
+        digest = digested(digest, joined.totals, joined.lengths.totals);
+
+        /* The other three agree with it. */
+        CHECK(triplet_door(&other) == WIRAMBOLO_ACCEPTED);
+        CHECK(same(other.strengths, joined.strengths, slots));
+        memcpy(other.read_strengths, joined.strengths, slots * sizeof (double));
+        CHECK(totals_door(&other) == WIRAMBOLO_ACCEPTED);
+        CHECK(same(other.totals, joined.totals, joined.lengths.totals));
+        CHECK(list_door(&other) == WIRAMBOLO_ACCEPTED);
+        CHECK(same(other.strengths, joined.strengths, slots));
+        memcpy(joined.triplet, joined.triplets + 3, sizeof joined.triplet);
+        CHECK(joined_door(&joined) == WIRAMBOLO_ACCEPTED);
+        CHECK(same(other.strengths + slots, joined.strengths, slots));
+    }
+    /* The digest of bindings/rust/tests/doors.rs: of the strengths and totals that the oracle (tools/oracle) leaves. */
+    CHECK(digest == UINT64_C(0xdb59cc90d6cf1dad));
+}
+
 static void refused(void)
 {
     struct set s;
@@ -301,11 +448,11 @@ static void refused(void)
     CHECK(refuses(joined_door, s, WIRAMBOLO_MEASURE));
     s = cell_u(), s.list = 0;
     CHECK(refuses(list_door, s, WIRAMBOLO_MEASURE));
-    s = cell_u(), s.work_length = USED - 1;
+    s = cell_u(), s.lengths.work = wirambolo_work_length(1, 1) - 1;
     CHECK(refuses(triplet_door, s, WIRAMBOLO_LENGTH));
     CHECK(refuses(list_door, s, WIRAMBOLO_LENGTH));
     CHECK(refuses(joined_door, s, WIRAMBOLO_LENGTH));
-    s = cell_u(), s.totals_length = 2;
+    s = cell_u(), s.lengths.totals = 2;
     CHECK(refuses(totals_door, s, WIRAMBOLO_LENGTH));
     /* M10 */
     s = cell_u(), s.multiplicity[0] = 0;
@@ -345,15 +492,15 @@ static void unreadable(void)
     CHECK(refuses(joined_door, s, WIRAMBOLO_UNREADABLE));
     s = cell_u(), s.weights = 2;
     CHECK(refuses(totals_door, s, WIRAMBOLO_UNREADABLE));
-    s = cell_u(), s.mesh_length = 2;
+    s = cell_u(), s.lengths.mesh = 2;
     CHECK(refuses(triplet_door, s, WIRAMBOLO_UNREADABLE));
-    s = cell_u(), s.matrix_length = 8;
+    s = cell_u(), s.lengths.matrix = 8;
     CHECK(refuses(list_door, s, WIRAMBOLO_UNREADABLE));
-    s = cell_u(), s.triplet_length = 0;
+    s = cell_u(), s.lengths.triplet = 0;
     CHECK(refuses(joined_door, s, WIRAMBOLO_UNREADABLE));
     CHECK(refuses(totals_door, s, WIRAMBOLO_UNREADABLE));
     /* before 1 */
-    s = cell_u(), s.triplet_length = 2, s.atoms = 0;
+    s = cell_u(), s.lengths.triplet = 2, s.atoms = 0;
     CHECK(refuses(joined_door, s, WIRAMBOLO_UNREADABLE));
 }
 
@@ -391,6 +538,7 @@ int main(void)
 {
     lengths();
     accepted();
+    crystals();
     refused();
     unreadable();
     null_pointers();
