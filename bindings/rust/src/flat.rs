@@ -1,6 +1,6 @@
-//! The four functions on numbers and slices, as the library takes them: choices are numbers and arrays are slices, so that a call can also be one
-//! that cannot be read, which is answered 255 ([`Refusal::Unreadable`](crate::Refusal::Unreadable)). For callers whose choices come as numbers,
-//! from a file or another language; the functions at the crate's root have types for them.
+//! The four functions on numbers and slices, as the library takes them: choices are numbers and arrays are slices, so that a call can also
+//! be one that cannot be read, which is answered 255 ([`Refusal::Unreadable`](crate::Refusal::Unreadable)). For callers whose choices come
+//! as numbers, from a file or another language; the functions at the crate's root have types for them.
 //!
 //! The answer is 0 for an accepted set, else the number of a [`Refusal`](crate::Refusal), and then no buffer is changed.
 
