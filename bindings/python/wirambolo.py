@@ -17,7 +17,8 @@ numbers, or anything with a contiguous and aligned buffer of the right type (arr
 over, it is that of the slice. A slice that is written is such a buffer: array.array('d', ...) or a numpy array of f64.
 
 A set that is turned away raises Refused, whose `number` is the answer; nothing is changed then. What cannot be handed over raises
-TypeError, OverflowError or ValueError, which names the parameter. During a call no other thread may change the slices. The machine must round to nearest and keep subnormal numbers, as it does when Python starts.
+TypeError, OverflowError or ValueError, which names the parameter. During a call no other thread may change the slices. The machine
+must round to nearest and keep subnormal numbers, as it does when Python starts.
 """
 
 import array
