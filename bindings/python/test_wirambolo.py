@@ -294,7 +294,7 @@ class Tests(unittest.TestCase):
             self.assertEqual(bits(both["strengths"][144:]), bits(joined["strengths"]))
 
     def test_oracle_bits(self):
-        """Strengths and totals have the bits that the oracle (tools/oracle) leaves, by the digest of bindings/rust/tests/doors.rs."""
+        """Strengths and totals have the bits that the oracle (tools/rust/oracle) leaves, by the digest of bindings/rust/tests/doors.rs."""
         lefts = [self.worked(cell)[1] for cell in crystals()]
         texts = [bits(left[name]) for left in lefts for name in ("strengths", "totals")]
         self.assertEqual(digest(texts), 0xDB59CC90D6CF1DAD)

@@ -32,7 +32,7 @@ fn crystals() -> Vec<Cell> {
     cells
 }
 
-/// Strengths and totals have the bits that the oracle (`tools/oracle`) leaves, by their digest (FNV-1a, little-endian).
+/// Strengths and totals have the bits that the oracle (`tools/rust/oracle`) leaves, by their digest (FNV-1a, little-endian).
 #[test]
 fn oracle_bits() {
     let mut state = 0xcbf2_9ce4_8422_2325u64;

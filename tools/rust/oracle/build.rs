@@ -92,7 +92,7 @@ fn source_folder() -> PathBuf {
     let manifest = env::var_os("CARGO_MANIFEST_DIR").expect("CARGO_MANIFEST_DIR is set by cargo");
     let root = match env::var_os("PHONORS_SRC") {
         Some(folder) => PathBuf::from(folder),
-        None => Path::new(&manifest).join("../../../shared/docs/src"),
+        None => Path::new(&manifest).join("../../../../shared/docs/src"),
     };
     root.join("src")
 }

@@ -1,4 +1,5 @@
-//! Usage: bench [--rounds N] [--out FILE] [--svg FILE] [triplet | list | totals | joined ...]
+//! The times as a program; `tools/bench` builds and runs it. usage.txt has the words it takes, but for --self and --source, which are
+//! the script's.
 
 use bench::case::{Case, Timed};
 use bench::measure::measure;
@@ -6,8 +7,7 @@ use bench::{plot, report};
 use differential::doors::Doors;
 use std::process::ExitCode;
 
-const USAGE: &str =
-    "usage: bench [--rounds N] [--out FILE] [--svg FILE] [triplet | list | totals | joined ...]";
+const USAGE: &str = include_str!("../usage.txt");
 
 struct Wanted {
     rounds: u32,
@@ -25,7 +25,7 @@ fn wanted(mut args: impl Iterator<Item = String>) -> Option<Wanted> {
     };
     while let Some(arg) = args.next() {
         match arg.as_str() {
-            "--rounds" => wanted.rounds = args.next()?.parse().ok()?,
+            "--rounds" => wanted.rounds = args.next()?.parse().ok().filter(|&n| n > 0)?,
             "--out" => wanted.out = Some(args.next()?),
             "--svg" => wanted.svg = Some(args.next()?),
             word if Timed::ALL.iter().any(|timed| timed.word() == word) => wanted.words.push(arg),
@@ -51,7 +51,7 @@ fn library() -> (&'static dyn Doors, &'static str) {
 
 fn main() -> ExitCode {
     let Some(wanted) = wanted(std::env::args().skip(1)) else {
-        eprintln!("{USAGE}");
+        eprint!("{USAGE}");
         return ExitCode::from(2);
     };
     match run(&wanted) {

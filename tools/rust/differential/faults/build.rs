@@ -87,7 +87,7 @@ fn read(path: &Path) -> String {
 fn base_files(here: &Path) -> BTreeMap<String, String> {
     let phonors = match env::var_os("PHONORS_SRC") {
         Some(folder) => PathBuf::from(folder),
-        None => here.join("../../../../shared/docs/src"),
+        None => here.join("../../../../../shared/docs/src"),
     };
     let mut files = BTreeMap::new();
     for name in PHONORS {

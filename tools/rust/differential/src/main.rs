@@ -1,6 +1,5 @@
-//! Usage: differential [--only INDEX] [--trace] [--threads T] SEED N [triplet | list | totals | joined | key ...]
-//!        differential --faults SEED N
-//!        differential --replay FOLDER SEED N
+//! The comparison as a program; `tools/differential` builds and runs it. usage.txt has the words it takes, but for --self and --source,
+//! which are the script's.
 
 use differential::call::{Call, Door};
 use differential::cartons;
@@ -14,9 +13,7 @@ use differential::tally::{CartonTally, Tally};
 use differential::threads;
 use std::process::ExitCode;
 
-const USAGE: &str = "usage: differential [--only INDEX] [--trace] [--threads T] SEED N [triplet | list | totals | joined | key ...]
-       differential --faults SEED N
-       differential --replay FOLDER SEED N";
+const USAGE: &str = include_str!("../usage.txt");
 
 /// After so many mismatches of a door the rest are counted and not printed.
 const PRINTED: u64 = 20;
@@ -45,8 +42,11 @@ fn wanted(mut args: impl Iterator<Item = String>) -> Option<Wanted> {
             "--only" => wanted.only = Some(args.next()?.parse().ok()?),
             "--threads" => wanted.threads = Some(args.next()?.parse().ok().filter(|&n| n > 0)?),
             "key" => wanted.key = true,
-            word if numbers.len() < 2 => numbers.push(word.parse().ok()?),
-            word => wanted.doors.push(Door::named(word)?),
+            word => match Door::named(word) {
+                Some(door) if wanted.doors.contains(&door) => (),
+                Some(door) => wanted.doors.push(door),
+                None => numbers.push(word.parse().ok()?),
+            },
         }
     }
     [wanted.seed, wanted.sets] = numbers.try_into().ok()?;
@@ -59,7 +59,7 @@ fn wanted(mut args: impl Iterator<Item = String>) -> Option<Wanted> {
 
 fn main() -> ExitCode {
     let Some(wanted) = wanted(std::env::args().skip(1)) else {
-        eprintln!("{USAGE}");
+        eprint!("{USAGE}");
         return ExitCode::from(2);
     };
     std::panic::set_hook(Box::new(|_| ()));
@@ -198,7 +198,7 @@ fn describe(call: &Call) -> String {
 
 fn mismatch(seed: u64, index: u64, call: &Call, answer: u8, how: &str) -> String {
     format!(
-        "MISMATCH seed {seed}, index {index}: {}\n  the oracle answers {answer}; {how}\n  again: run --only {index} {seed} {} {}",
+        "MISMATCH seed {seed}, index {index}: {}\n  the oracle answers {answer}; {how}\n  again: tools/differential --only {index} {seed} {} {}",
         describe(call),
         index + 1,
         call.door.name()
@@ -272,7 +272,7 @@ fn key_mismatch(
         }
     };
     format!(
-        "MISMATCH seed {seed}, index {index}: key, kind {:?}, {} bytes, damage {:?}\n  {how}\n  again: run --only {index} {seed} {} key",
+        "MISMATCH seed {seed}, index {index}: key, kind {:?}, {} bytes, damage {:?}\n  {how}\n  again: tools/differential --only {index} {seed} {} key",
         carton.kind.name(),
         carton.bytes.len(),
         carton.damage,
