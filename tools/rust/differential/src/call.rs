@@ -169,9 +169,12 @@ impl Call {
         }
     }
 
-    fn integer_tables(&self) -> [(&'static str, &[i64]); 6] {
+    fn integer_tables(&self) -> [(&'static str, &[i64]); 9] {
         let t = &self.set.strengths;
         [
+            ("mesh", &t.mesh),
+            ("q matrix", &t.q_matrix),
+            ("triplet", &self.set.triplet),
             ("triplets", &self.triplets),
             ("addresses", &t.addresses),
             ("multiplicity", &t.multiplicity),

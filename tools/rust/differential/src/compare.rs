@@ -3,11 +3,41 @@
 use crate::call::{Buffers, Call};
 use crate::doors::{Doors, Lent, ORACLE};
 use oracle::sets::{work_size, Symmetry};
-use std::panic::{catch_unwind, AssertUnwindSafe};
+use std::cell::{Cell, RefCell};
+use std::panic::{catch_unwind, set_hook, take_hook, AssertUnwindSafe};
 
 /// Numbers before and behind each lent buffer that no door may touch.
 const GUARD: usize = 16;
 const GUARD_BITS: u64 = 0x7FF4_5A5A_A5A5_0F0F;
+
+thread_local! {
+    /// True while this thread is inside `tried`.
+    static TRYING: Cell<bool> = const { Cell::new(false) };
+    /// What the last panic inside `tried` said.
+    static SAID: RefCell<String> = const { RefCell::new(String::new()) };
+}
+
+/// From now on a panic inside `tried` is not told on standard error but kept for its error; every other is told as before.
+pub fn keep_tried_panics() {
+    let tell = take_hook();
+    set_hook(Box::new(move |panic| {
+        if TRYING.get() {
+            let said = format!("stopped with a panic: {panic}").replace('\n', " ");
+            SAID.set(said);
+        } else {
+            tell(panic);
+        }
+    }));
+}
+
+/// What the closure gives; an error if it stops with a panic.
+pub fn tried<T>(closure: impl FnOnce() -> T) -> Result<T, String> {
+    let outer = TRYING.replace(true);
+    SAID.set("stopped with a panic".to_string());
+    let given = catch_unwind(AssertUnwindSafe(closure));
+    TRYING.set(outer);
+    given.map_err(|_| SAID.take())
+}
 
 /// What a call left.
 pub struct Outcome {
@@ -24,7 +54,7 @@ pub fn work(doors: &dyn Doors, call: &Call) -> Result<Outcome, String> {
         &call.before.work,
     ]
     .map(|before| guarded(before));
-    let answer = catch_unwind(AssertUnwindSafe(|| {
+    let answer = tried(|| {
         let [strengths, totals, work] = &mut rooms;
         let lent = Lent {
             strengths: inside(strengths),
@@ -32,8 +62,7 @@ pub fn work(doors: &dyn Doors, call: &Call) -> Result<Outcome, String> {
             work: inside(work),
         };
         doors.answer(&handed, lent)
-    }))
-    .map_err(|_| "stopped with a panic".to_string())?;
+    })?;
     if let Some(table) = call.changed_table(&handed) {
         return Err(format!("{table}, lent for reading, changed"));
     }
@@ -69,9 +98,9 @@ fn guards_stand(room: &[f64]) -> bool {
         .all(|x| x.to_bits() == GUARD_BITS)
 }
 
-/// The oracle's outcome of the call.
-pub fn expected(call: &Call) -> Outcome {
-    work(&ORACLE, call).unwrap_or_else(|what| panic!("the oracle {what}"))
+/// The oracle's outcome of the call; an error is the oracle's own and no fault of a door.
+pub fn expected(call: &Call) -> Result<Outcome, String> {
+    work(&ORACLE, call).map_err(|what| format!("the oracle {what}"))
 }
 
 /// Which entries an accepted call writes: strengths unflagged or symmetrized, all totals, the first W of work.
@@ -160,6 +189,16 @@ pub fn untouched_stand(call: &Call, outcome: &Outcome) -> bool {
 #[cfg(test)]
 mod tests {
     use super::*;
+
+    #[test]
+    fn a_panic_that_is_tried_is_an_error() {
+        assert_eq!(tried(|| 7), Ok(7));
+        assert!(tried(|| -> u8 { panic!("on purpose") }).is_err());
+        assert!(
+            tried(|| tried(|| -> u8 { panic!("on purpose") })).is_ok_and(|inner| inner.is_err())
+        );
+        assert!(!TRYING.get());
+    }
 
     #[test]
     fn guards_show_a_write_beside_the_buffer() {

@@ -2,11 +2,10 @@
 
 use crate::call::{Call, Door};
 use crate::cartons;
-use crate::compare::{difference, expected, work};
+use crate::compare::{difference, expected, tried, work};
 use crate::doors::{OracleDoors, ORACLE};
 use crate::generate;
 use faults::{Fault, FAULTS, NONE};
-use std::panic::catch_unwind;
 
 /// When and by what a mistake was found at one door.
 pub struct Found {
@@ -68,7 +67,7 @@ fn left<'a>(hunts: &'a mut [Hunt], door: &'a str) -> impl Iterator<Item = &'a mu
 }
 
 fn hunt_in_set(hunts: &mut [Hunt], call: &Call, index: u64) {
-    let oracle = expected(call);
+    let oracle = expected(call).unwrap_or_else(|what| panic!("set {index}: {what}"));
     for hunt in left(hunts, call.door.name()) {
         let outcome = work(&hunt.doors(), call);
         if let Some(how) = difference(call, &oracle, &outcome) {
@@ -85,7 +84,7 @@ fn hunt_in_carton(hunts: &mut [Hunt], seed: u64, index: u64) {
     let oracle = (ORACLE.key)(&carton.bytes);
     for hunt in left(hunts, "key") {
         let key = hunt.fault.key;
-        let printed = catch_unwind(|| key(&carton.bytes));
+        let printed = tried(|| key(&carton.bytes));
         if printed.as_ref().ok() != Some(&oracle) {
             hunt.found = Some(Found {
                 sets: index + 1,

@@ -1,29 +1,38 @@
 //! The program `key`, run on a carton given on its standard input.
 
+use std::ffi::OsStr;
 use std::io::{Read, Write};
-use std::process::{Child, Command, Stdio};
+use std::process::{Child, Command, ExitStatus, Stdio};
 use std::sync::mpsc;
 use std::thread;
-use std::time::Duration;
+use std::time::{Duration, Instant};
 
 /// A run that has not ended by then is wrong.
 const PATIENCE: Duration = Duration::from_secs(20);
 
 /// What the program prints; an error says how the run went wrong. It must end with status 0 and an empty standard error.
-pub fn run(program: &str, carton: &[u8]) -> Result<Vec<u8>, String> {
+pub fn run(program: &OsStr, carton: &[u8]) -> Result<Vec<u8>, String> {
+    run_for(PATIENCE, program, carton)
+}
+
+fn run_for(patience: Duration, program: &OsStr, carton: &[u8]) -> Result<Vec<u8>, String> {
+    let end = Instant::now() + patience;
     let mut child = Command::new(program)
         .stdin(Stdio::piped())
         .stdout(Stdio::piped())
         .stderr(Stdio::piped())
         .spawn()
-        .map_err(|e| format!("{program}: {e}"))?;
-    let printed = converse(&mut child, carton.to_vec())?;
-    let status = child.wait().map_err(|e| e.to_string())?;
-    let mut complaint = Vec::new();
-    if let Some(mut pipe) = child.stderr.take() {
-        pipe.read_to_end(&mut complaint)
-            .map_err(|e| e.to_string())?;
-    }
+        .map_err(|e| format!("{}: {e}", program.display()))?;
+    let ended = converse(&mut child, carton.to_vec(), end)
+        .and_then(|read| Ok((read, status_by(&mut child, end)?)));
+    let ((printed, complaint), status) = match ended {
+        Ok(ended) => ended,
+        Err(what) => {
+            let _ = child.kill();
+            let _ = child.wait();
+            return Err(what);
+        }
+    };
     if !status.success() {
         return Err(format!("ended with {status}"));
     }
@@ -33,26 +42,84 @@ pub fn run(program: &str, carton: &[u8]) -> Result<Vec<u8>, String> {
     Ok(printed)
 }
 
-/// Hands the carton over and reads to the end, on a thread of its own so that a run that hangs can be stopped.
-fn converse(child: &mut Child, carton: Vec<u8>) -> Result<Vec<u8>, String> {
-    let (Some(mut input), Some(mut output)) = (child.stdin.take(), child.stdout.take()) else {
+/// Hands the carton over and reads both outputs to the end, on threads of their own so that a run that hangs can be stopped.
+fn converse(
+    child: &mut Child,
+    carton: Vec<u8>,
+    end: Instant,
+) -> Result<(Vec<u8>, Vec<u8>), String> {
+    let (Some(mut input), Some(output), Some(errors)) =
+        (child.stdin.take(), child.stdout.take(), child.stderr.take())
+    else {
         return Err("has no pipes".to_string());
     };
-    let (sender, receiver) = mpsc::channel();
     thread::spawn(move || {
         // The program may stop reading a file that is too long.
         let _ = input.write_all(&carton);
-        drop(input);
-        let mut printed = Vec::new();
-        let read = output.read_to_end(&mut printed).map(|_| printed);
+    });
+    let (printed, complaint) = (all_of(output), all_of(errors));
+    let by_the_end = |receiver: mpsc::Receiver<std::io::Result<Vec<u8>>>| {
+        let left = end.saturating_duration_since(Instant::now());
+        let read = receiver
+            .recv_timeout(left)
+            .map_err(|_| "did not end".to_string())?;
+        read.map_err(|e| e.to_string())
+    };
+    Ok((by_the_end(printed)?, by_the_end(complaint)?))
+}
+
+/// Everything that comes out of a pipe, read on a thread.
+fn all_of(mut pipe: impl Read + Send + 'static) -> mpsc::Receiver<std::io::Result<Vec<u8>>> {
+    let (sender, receiver) = mpsc::channel();
+    thread::spawn(move || {
+        let mut bytes = Vec::new();
+        let read = pipe.read_to_end(&mut bytes).map(|_| bytes);
         let _ = sender.send(read);
     });
-    match receiver.recv_timeout(PATIENCE) {
-        Ok(read) => read.map_err(|e| e.to_string()),
-        Err(_) => {
-            let _ = child.kill();
-            let _ = child.wait();
-            Err("did not end".to_string())
+    receiver
+}
+
+/// The program's status, if it ends in time after its outputs are closed.
+fn status_by(child: &mut Child, end: Instant) -> Result<ExitStatus, String> {
+    let mut pause = Duration::from_micros(50);
+    loop {
+        if let Some(status) = child.try_wait().map_err(|e| e.to_string())? {
+            return Ok(status);
+        }
+        if Instant::now() >= end {
+            return Err("did not end".to_string());
+        }
+        thread::sleep(pause);
+        pause = (2 * pause).min(Duration::from_millis(50));
+    }
+}
+
+#[cfg(test)]
+mod tests {
+    use super::*;
+
+    #[test]
+    fn what_a_program_prints() {
+        for carton in [&b""[..], b"a carton", &[7; 1 << 20]] {
+            assert_eq!(run(OsStr::new("/bin/cat"), carton).as_deref(), Ok(carton));
+        }
+    }
+
+    #[test]
+    fn runs_that_go_wrong() {
+        let error =
+            |program: &str, carton: &[u8]| run(OsStr::new(program), carton).expect_err("an error");
+        assert!(error("/bin/false", b"").contains("ended with"));
+        assert!(error("/nowhere/key", b"").contains("/nowhere/key"));
+        // A shell that is handed a script: it complains, and it takes too long with its outputs open or closed.
+        assert!(error("/bin/sh", b"echo no >&2").contains("standard error"));
+        for script in ["sleep 5", "exec >&- 2>&-; sleep 5"] {
+            let slow = run_for(
+                Duration::from_millis(200),
+                OsStr::new("/bin/sh"),
+                script.as_bytes(),
+            );
+            assert_eq!(slow, Err("did not end".to_string()));
         }
     }
 }

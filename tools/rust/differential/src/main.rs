@@ -3,7 +3,7 @@
 
 use differential::call::{Call, Door};
 use differential::cartons;
-use differential::compare::{difference, expected, work};
+use differential::compare::{difference, expected, keep_tried_panics, tried, work};
 use differential::doors::{Doors, ORACLE};
 use differential::generate;
 use differential::key;
@@ -11,6 +11,7 @@ use differential::progress::Progress;
 use differential::replay;
 use differential::tally::{CartonTally, Tally};
 use differential::threads;
+use std::ffi::OsStr;
 use std::process::ExitCode;
 
 const USAGE: &str = include_str!("../usage.txt");
@@ -62,7 +63,7 @@ fn main() -> ExitCode {
         eprint!("{USAGE}");
         return ExitCode::from(2);
     };
-    std::panic::set_hook(Box::new(|_| ()));
+    keep_tried_panics();
     if wanted.faults {
         return hunt_faults(&wanted);
     }
@@ -115,7 +116,7 @@ fn doors() -> &'static (dyn Doors + Sync) {
 
 fn indices(wanted: &Wanted) -> std::ops::Range<u64> {
     match wanted.only {
-        Some(index) => index..index + 1,
+        Some(index) => index..index.saturating_add(1),
         None => 0..wanted.sets,
     }
 }
@@ -128,46 +129,101 @@ fn threads_of(wanted: &Wanted) -> usize {
     wanted.threads.unwrap_or_else(threads::of_machine)
 }
 
+/// What the comparison of one set or carton has to say.
+enum Compared {
+    Same(String),
+    Mismatch(String),
+}
+
+/// Works each index on several threads with `compare`, prints what it has to say and gives what each thread counted.
+fn compare_all<T: Default + Send>(
+    wanted: &Wanted,
+    name: &'static str,
+    compare: impl Fn(&mut T, u64) -> Compared + Sync,
+) -> Vec<T> {
+    let progress = Progress::of(name, indices(wanted));
+    let tallies = threads::share(
+        indices(wanted),
+        threads_of(wanted),
+        |tally: &mut T, index| {
+            if wanted.trace {
+                eprintln!("{name} {index}");
+            }
+            match compare(tally, index) {
+                Compared::Mismatch(how) => {
+                    if progress.wrong() <= PRINTED {
+                        let again = format!(
+                            "tools/differential --only {index} {} {} {name}",
+                            wanted.seed,
+                            index + 1
+                        );
+                        let set = format!("seed {}, index {index}", wanted.seed);
+                        progress.print(&format!("MISMATCH {set}: {how}\n  again: {again}"));
+                    }
+                }
+                Compared::Same(what) if wanted.only.is_some() => {
+                    progress.print(&format!("{what}, no mismatch"));
+                }
+                Compared::Same(_) => (),
+            }
+            if !wanted.trace {
+                progress.step();
+            }
+        },
+    );
+    progress.clear();
+    tallies
+}
+
 fn compare_doors(wanted: &Wanted) -> Tally {
     let doors = doors();
     let mut whole = Tally::default();
     for &door in &wanted.doors {
-        let progress = Progress::of(door.name(), indices(wanted));
-        let tallies = threads::share(
-            indices(wanted),
-            threads_of(wanted),
-            |tally: &mut Tally, index| {
-                if wanted.trace {
-                    eprintln!("{} {index}", door.name());
-                }
-                let call = generate::call(wanted.seed, door, index);
-                let oracle = expected(&call);
-                let outcome = work(doors, &call);
-                tally.note(&call, oracle.answer);
-                let how = difference(&call, &oracle, &outcome);
-                if let Some(how) = &how {
-                    tally.mismatches += 1;
-                    if progress.wrong() <= PRINTED {
-                        progress.print(&mismatch(wanted.seed, index, &call, oracle.answer, how));
-                    }
-                } else if wanted.only.is_some() {
-                    progress.print(&format!(
-                        "{} answers {}, no mismatch",
-                        describe(&call),
-                        oracle.answer
-                    ));
-                }
-                if !wanted.trace {
-                    progress.step();
-                }
-            },
-        );
-        progress.clear();
+        let tallies = compare_all(wanted, door.name(), |tally: &mut Tally, index| {
+            compare_set(wanted.seed, doors, door, index, tally)
+        });
         for tally in &tallies {
             whole.add(tally);
         }
     }
     whole
+}
+
+/// A panic of generator or oracle is a mismatch too: the set was not compared.
+fn compare_set(
+    seed: u64,
+    doors: &dyn Doors,
+    door: Door,
+    index: u64,
+    tally: &mut Tally,
+) -> Compared {
+    let call = match tried(|| generate::call(seed, door, index)) {
+        Ok(call) => call,
+        Err(what) => {
+            tally.note_lost(door);
+            return Compared::Mismatch(format!("{}: the generator {what}", door.name()));
+        }
+    };
+    let oracle = expected(&call);
+    tally.note(&call, oracle.as_ref().ok().map(|outcome| outcome.answer));
+    let how = match &oracle {
+        Ok(oracle) => difference(&call, oracle, &work(doors, &call))
+            .map(|how| format!("the oracle answers {}; {how}", oracle.answer)),
+        Err(what) => Some(what.clone()),
+    };
+    match (how, oracle) {
+        (None, Ok(oracle)) => {
+            Compared::Same(format!("{} answers {}", describe(&call), oracle.answer))
+        }
+        (how, _) => {
+            tally.mismatches += 1;
+            Compared::Mismatch(format!(
+                "{}\n  {}",
+                describe(&call),
+                how.unwrap_or_default()
+            ))
+        }
+    }
 }
 
 fn describe(call: &Call) -> String {
@@ -196,43 +252,15 @@ fn describe(call: &Call) -> String {
     text
 }
 
-fn mismatch(seed: u64, index: u64, call: &Call, answer: u8, how: &str) -> String {
-    format!(
-        "MISMATCH seed {seed}, index {index}: {}\n  the oracle answers {answer}; {how}\n  again: tools/differential --only {index} {seed} {} {}",
-        describe(call),
-        index + 1,
-        call.door.name()
-    )
-}
-
 /// Runs the program named by KEY; without it the oracle's `key` stands in.
 fn compare_key(wanted: &Wanted) -> CartonTally {
-    let program = std::env::var("KEY").ok();
+    let program = std::env::var_os("KEY");
     if program.is_none() {
         println!("the oracle stands in for the program key");
     }
-    let progress = Progress::of("key", indices(wanted));
-    let tallies = threads::share(
-        indices(wanted),
-        threads_of(wanted),
-        |tally: &mut CartonTally, index| {
-            let carton = cartons::carton(wanted.seed, index);
-            let oracle = oracle::carton::key(&carton.bytes);
-            let printed = match &program {
-                Some(program) => key::run(program, &carton.bytes),
-                None => Ok((ORACLE.key)(&carton.bytes)),
-            };
-            tally.note(carton.kind, &oracle);
-            if printed.as_ref() != Ok(&oracle) {
-                tally.mismatches += 1;
-                if progress.wrong() <= PRINTED {
-                    progress.print(&key_mismatch(wanted.seed, index, &carton, &oracle, printed));
-                }
-            }
-            progress.step();
-        },
-    );
-    progress.clear();
+    let tallies = compare_all(wanted, "key", |tally: &mut CartonTally, index| {
+        compare_carton(wanted.seed, program.as_deref(), index, tally)
+    });
     let mut whole = CartonTally::default();
     for tally in &tallies {
         whole.add(tally);
@@ -240,43 +268,75 @@ fn compare_key(wanted: &Wanted) -> CartonTally {
     whole
 }
 
-fn key_mismatch(
+fn compare_carton(
     seed: u64,
+    program: Option<&OsStr>,
     index: u64,
-    carton: &cartons::Carton,
-    oracle: &[u8],
-    printed: Result<Vec<u8>, String>,
-) -> String {
-    let how = match printed {
-        Err(how) => format!("the program {how}"),
-        Ok(printed) => {
-            let (a, b) = (
-                String::from_utf8_lossy(oracle),
-                String::from_utf8_lossy(&printed),
-            );
-            let line = a
-                .lines()
-                .zip(b.lines())
-                .position(|(x, y)| x != y)
-                .unwrap_or(a.lines().count().min(b.lines().count()));
-            // A program that is not key may print anything.
-            let start = |text: &str| -> String {
-                let line = text.lines().nth(line).unwrap_or("");
-                line.chars().take(80).collect()
-            };
-            format!(
-                "line {line}: oracle {:?}, program {:?}",
-                start(&a),
-                start(&b)
-            )
+    tally: &mut CartonTally,
+) -> Compared {
+    let carton = match tried(|| cartons::carton(seed, index)) {
+        Ok(carton) => carton,
+        Err(what) => {
+            tally.note_lost();
+            return Compared::Mismatch(format!("key: the generator {what}"));
         }
     };
-    format!(
-        "MISMATCH seed {seed}, index {index}: key, kind {:?}, {} bytes, damage {:?}\n  {how}\n  again: tools/differential --only {index} {seed} {} key",
+    let oracle = tried(|| (ORACLE.key)(&carton.bytes));
+    tally.note(carton.kind, oracle.as_deref().ok());
+    let how = match &oracle {
+        Ok(oracle) => {
+            let printed = match program {
+                Some(program) => key::run(program, &carton.bytes),
+                None => Ok((ORACLE.key)(&carton.bytes)),
+            };
+            (printed.as_ref() != Ok(oracle)).then(|| key_difference(oracle, printed))
+        }
+        Err(what) => Some(format!("the oracle {what}")),
+    };
+    let carton = format!(
+        "key, kind {:?}, {} bytes, damage {:?}",
         carton.kind.name(),
         carton.bytes.len(),
-        carton.damage,
-        index + 1
+        carton.damage
+    );
+    match (how, oracle) {
+        (None, Ok(oracle)) => {
+            let line = String::from_utf8_lossy(&oracle);
+            Compared::Same(format!(
+                "{carton} prints {:?} first",
+                line.lines().next().unwrap_or("")
+            ))
+        }
+        (how, _) => {
+            tally.mismatches += 1;
+            Compared::Mismatch(format!("{carton}\n  {}", how.unwrap_or_default()))
+        }
+    }
+}
+
+fn key_difference(oracle: &[u8], printed: Result<Vec<u8>, String>) -> String {
+    let printed = match printed {
+        Ok(printed) => printed,
+        Err(how) => return format!("the program {how}"),
+    };
+    let (a, b) = (
+        String::from_utf8_lossy(oracle),
+        String::from_utf8_lossy(&printed),
+    );
+    let line = a
+        .lines()
+        .zip(b.lines())
+        .position(|(x, y)| x != y)
+        .unwrap_or(a.lines().count().min(b.lines().count()));
+    // A program that is not key may print anything.
+    let start = |text: &str| -> String {
+        let line = text.lines().nth(line).unwrap_or("");
+        line.chars().take(80).collect()
+    };
+    format!(
+        "line {line}: oracle {:?}, program {:?}",
+        start(&a),
+        start(&b)
     )
 }
 
@@ -289,7 +349,7 @@ fn hunt_faults(_: &Wanted) -> ExitCode {
 /// Prints for each mistake the number of sets until each of its doors showed it; names those not found.
 #[cfg(feature = "faults")]
 fn hunt_faults(wanted: &Wanted) -> ExitCode {
-    let mut line = differential::progress::Line::default();
+    let mut line = differential::progress::Line::new();
     let hunts = differential::hunt::hunt(wanted.seed, wanted.sets, |text| line.show(text));
     line.clear();
     for group in hunts.chunk_by(|a, b| a.fault.name == b.fault.name) {

@@ -21,21 +21,27 @@ pub struct Tally {
 }
 
 impl Tally {
-    pub fn note(&mut self, call: &Call, answer: u8) {
+    /// One set more, with the oracle's answer if it gave one.
+    pub fn note(&mut self, call: &Call, answer: Option<u8>) {
         let tally = &mut self.doors[call.door as usize];
         tally.sets += 1;
-        let place = if answer == UNKNOWN {
-            10
-        } else {
-            usize::from(answer.min(9))
-        };
-        tally.answers[place] += 1;
+        match answer {
+            Some(UNKNOWN) => tally.answers[10] += 1,
+            Some(answer) => tally.answers[usize::from(answer.min(9))] += 1,
+            None => (),
+        }
         tally.kinds[call.kind as usize] += 1;
         match call.planted[..] {
             [(a, _)] => tally.alone[usize::from(a)] += 1,
             [(a, _), (b, _)] => tally.pairs[usize::from(a)][usize::from(b)] += 1,
             _ => (),
         }
+    }
+
+    /// A set that could not be made: a mismatch.
+    pub fn note_lost(&mut self, door: Door) {
+        self.doors[door as usize].sets += 1;
+        self.mismatches += 1;
     }
 
     /// Both counts together.
@@ -124,26 +130,38 @@ impl Tally {
 /// Cartons by the number that `key` prints, 0 for a key, and by kind.
 #[derive(Default)]
 pub struct CartonTally {
+    cartons: u64,
     numbers: [u64; 13],
     kinds: [u64; 8],
     pub mismatches: u64,
 }
 
 impl CartonTally {
-    pub fn note(&mut self, kind: CartonKind, text: &[u8]) {
-        self.numbers[printed_number(text)] += 1;
+    /// One carton more, with what the oracle prints for it if it came to an end.
+    pub fn note(&mut self, kind: CartonKind, text: Option<&[u8]>) {
+        self.cartons += 1;
+        if let Some(text) = text {
+            self.numbers[printed_number(text)] += 1;
+        }
         self.kinds[kind as usize] += 1;
+    }
+
+    /// A carton that could not be made: a mismatch.
+    pub fn note_lost(&mut self) {
+        self.cartons += 1;
+        self.mismatches += 1;
     }
 
     /// Both counts together.
     pub fn add(&mut self, other: &CartonTally) {
+        self.cartons += other.cartons;
         add(&mut self.numbers, &other.numbers);
         add(&mut self.kinds, &other.kinds);
         self.mismatches += other.mismatches;
     }
 
     pub fn cartons(&self) -> u64 {
-        self.numbers.iter().sum()
+        self.cartons
     }
 
     pub fn report(&self) -> String {

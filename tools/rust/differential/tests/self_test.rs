@@ -3,7 +3,7 @@
 
 use differential::call::{Call, Door, Kind};
 use differential::cartons;
-use differential::compare::{difference, expected, untouched_stand, work, Outcome};
+use differential::compare::{difference, untouched_stand, work, Outcome};
 use differential::doors::{Doors, Lent, ORACLE, UNKNOWN};
 use differential::generate;
 use differential::tally::Tally;
@@ -11,6 +11,10 @@ use oracle::sets::{work_size, Symmetry};
 
 const SEED: u64 = 2;
 const SETS: u64 = 1_200;
+
+fn expected(call: &Call) -> Outcome {
+    differential::compare::expected(call).expect("the oracle's outcome")
+}
 
 #[test]
 fn sets_are_the_same_each_time() {
@@ -32,7 +36,7 @@ fn check_door(door: Door, tally: &mut Tally) {
     for index in 0..SETS {
         let call = generate::call(SEED, door, index);
         let oracle = expected(&call);
-        tally.note(&call, oracle.answer);
+        tally.note(&call, Some(oracle.answer));
         assert!(untouched_stand(&call, &oracle), "{} {index}", door.name());
         assert_eq!(difference(&call, &oracle, &work(&ORACLE, &call)), None);
         let lowest = call.planted.iter().map(|fault| fault.0).min();
@@ -175,13 +179,55 @@ fn a_panic_is_a_difference() {
 
 #[test]
 fn a_table_that_changed_is_named() {
-    let call = accepted();
-    let mut after = call.clone();
-    assert_eq!(call.changed_table(&after), None);
-    let zero = &mut after.set.second_weights[0];
-    *zero = f64::from_bits(zero.to_bits() ^ (1 << 63));
-    assert_eq!(call.changed_table(&after), Some("second weights"));
-    after = call.clone();
-    after.set.strengths.nonzero[0] ^= 1;
-    assert_eq!(call.changed_table(&after), Some("nonzero"));
+    let mut call = accepted();
+    call.triplets = call.set.triplet.to_vec();
+    call.read_strengths = vec![0.0];
+    let changed = |edit: fn(&mut Call)| {
+        let mut after = call.clone();
+        edit(&mut after);
+        call.changed_table(&after)
+    };
+    fn flip(x: &mut f64) {
+        *x = f64::from_bits(x.to_bits() ^ (1 << 63));
+    }
+    assert_eq!(changed(|_| ()), None);
+    let edits: [(&str, fn(&mut Call)); 20] = [
+        ("mesh", |c| c.set.strengths.mesh[2] ^= 1),
+        ("q matrix", |c| c.set.strengths.q_matrix[8] ^= 1),
+        ("triplet", |c| c.set.triplet[2] ^= 1),
+        ("triplets", |c| c.triplets[2] ^= 1),
+        ("addresses", |c| c.set.strengths.addresses[0] ^= 1),
+        ("multiplicity", |c| c.set.strengths.multiplicity[1] ^= 1),
+        ("p2s", |c| c.set.strengths.p2s[0] ^= 1),
+        ("s2p", |c| c.set.strengths.s2p[0] ^= 1),
+        ("bands", |c| c.set.strengths.bands[0] ^= 1),
+        ("vectors", |c| flip(&mut c.set.strengths.vectors[0])),
+        ("masses", |c| flip(&mut c.set.strengths.masses[0])),
+        ("frequencies", |c| flip(&mut c.set.strengths.frequencies[0])),
+        ("eigenvectors", |c| {
+            flip(&mut c.set.strengths.eigenvectors[0])
+        }),
+        ("force constants", |c| {
+            flip(&mut c.set.strengths.force_constants[0])
+        }),
+        ("first weights", |c| flip(&mut c.set.first_weights[0])),
+        ("second weights", |c| flip(&mut c.set.second_weights[0])),
+        ("strengths read", |c| flip(&mut c.read_strengths[0])),
+        ("all-shortest", |c| c.set.strengths.all_shortest[0] ^= 1),
+        ("nonzero", |c| c.set.strengths.nonzero[0] ^= 1),
+        ("flags", |c| c.set.strengths.flags[0] ^= 1),
+    ];
+    for (name, edit) in edits {
+        assert_eq!(changed(edit), Some(name));
+    }
+}
+
+/// The files that `key_replay` is run on are made again by the seed and count that the README names.
+#[test]
+fn key_replay_is_made_again() {
+    let stream = differential::replay::stream(1, 300);
+    let files = concat!(env!("CARGO_MANIFEST_DIR"), "/../../../crates/key_replay");
+    let read = |name: &str| std::fs::read(format!("{files}/{name}")).expect("a file of key_replay");
+    assert!(stream.cartons == read("stdin"), "stdin");
+    assert!(stream.texts == read("stdout"), "stdout");
 }
