@@ -1,136 +1,24 @@
-//! Takes the six files of phonors from the source folder, patches them by the table below and writes them to
-//! OUT_DIR, with a `mods.rs` that declares them as modules. No text of phonors enters the repository.
+//! Writes the patched files of phonors to OUT_DIR, with a `mods.rs` that declares them as modules.
 
-use std::path::{Path, PathBuf};
+use std::path::PathBuf;
 use std::{env, fs};
 
-const FILES: [&str; 6] = [
-    "interaction",
-    "reciprocal_to_normal",
-    "real_to_reciprocal",
-    "imag_self_energy",
-    "common",
-    "funcs",
-];
-
-/// One exact replacement: `find` must occur `times` times in `file`.
-struct Patch {
-    file: &'static str,
-    find: &'static str,
-    put: &'static str,
-    times: usize,
-}
-
-/// Every change made to phonors: the two stand-ins, then two functions opened to this crate.
-const PATCHES: [Patch; 4] = [
-    Patch {
-        file: "real_to_reciprocal",
-        find: "phase.sin_cos()",
-        put: "crate::standins::sin_cos(phase)",
-        times: 2,
-    },
-    Patch {
-        file: "funcs",
-        find: "(x / temperature_thz).exp()",
-        put: "crate::standins::exp(x / temperature_thz)",
-        times: 1,
-    },
-    Patch {
-        file: "interaction",
-        find: "\nfn compute_q_vecs(",
-        put: "\npub(crate) fn compute_q_vecs(",
-        times: 1,
-    },
-    Patch {
-        file: "imag_self_energy",
-        find: "\nfn set_g_pos_at_frequency_point(",
-        put: "\npub(crate) fn set_g_pos_at_frequency_point(",
-        times: 1,
-    },
-];
-
-/// Calls whose bits depend on the machine's library or on a fused operation: none may be left after patching.
-const MACHINE_CALLS: [&str; 13] = [
-    ".sin_cos(",
-    ".sin(",
-    ".cos(",
-    ".tan(",
-    ".sinh(",
-    ".exp(",
-    ".exp2(",
-    ".exp_m1(",
-    ".ln(",
-    ".powf(",
-    ".powi(",
-    ".cbrt(",
-    ".mul_add(",
-];
-
-/// The exceptions, one call each: `gaussian` and `inv_sinh_occupation`, which no door reaches.
-const KEPT_CALLS: [(&str, &str); 2] = [("funcs", ".exp("), ("funcs", ".sinh(")];
+mod phonors;
 
 fn main() {
     println!("cargo:rerun-if-changed=build.rs");
-    println!("cargo:rerun-if-env-changed=PHONORS_SRC");
-    let folder = source_folder();
-    let out = PathBuf::from(env::var_os("OUT_DIR").expect("OUT_DIR is set by cargo"));
+    println!("cargo:rerun-if-changed=phonors.rs");
+    let here = PathBuf::from(env::var_os("CARGO_MANIFEST_DIR").expect("set by cargo"));
+    let out = PathBuf::from(env::var_os("OUT_DIR").expect("set by cargo"));
+    let folder = phonors::source_folder(&here);
     let mut mods = String::new();
-    for name in FILES {
-        let text = patched(name, &read(&folder.join(format!("{name}.rs"))));
-        check_machine_calls(name, &text);
+    for name in phonors::FILES {
         let path = out.join(format!("{name}.rs"));
-        fs::write(&path, &text).unwrap_or_else(|e| panic!("{}: {e}", path.display()));
+        fs::write(&path, phonors::patched(&folder, name))
+            .unwrap_or_else(|e| panic!("{}: {e}", path.display()));
         mods += &format!(
             "#[path = {path:?}]\n#[allow(dead_code, unused, clippy::all)]\npub mod {name};\n"
         );
     }
     fs::write(out.join("mods.rs"), mods).expect("mods.rs is written to OUT_DIR");
-}
-
-/// The folder that holds the .rs files: PHONORS_SRC/src, or `shared` beside the repository.
-fn source_folder() -> PathBuf {
-    let manifest = env::var_os("CARGO_MANIFEST_DIR").expect("CARGO_MANIFEST_DIR is set by cargo");
-    let root = match env::var_os("PHONORS_SRC") {
-        Some(folder) => PathBuf::from(folder),
-        None => Path::new(&manifest).join("../../../../shared/docs/src"),
-    };
-    root.join("src")
-}
-
-fn read(path: &Path) -> String {
-    println!("cargo:rerun-if-changed={}", path.display());
-    fs::read_to_string(path).unwrap_or_else(|e| {
-        panic!(
-            "{}: {e}; set PHONORS_SRC to the folder of the phonors source",
-            path.display()
-        )
-    })
-}
-
-/// `text` with the patches of `file` made, each found exactly as often as the table says.
-fn patched(file: &str, text: &str) -> String {
-    let mut text = text.to_string();
-    for patch in PATCHES.iter().filter(|patch| patch.file == file) {
-        let found = text.matches(patch.find).count();
-        assert!(
-            found == patch.times,
-            "{file}.rs: `{}` occurs {found} times, expected {}",
-            patch.find.trim(),
-            patch.times
-        );
-        text = text.replace(patch.find, patch.put);
-    }
-    text
-}
-
-/// Stops the build if the patched `text` of `file` calls the machine's functions beyond the exceptions.
-fn check_machine_calls(file: &str, text: &str) {
-    for call in MACHINE_CALLS {
-        let found = text.matches(call).count();
-        let kept = usize::from(KEPT_CALLS.contains(&(file, call)));
-        assert!(
-            found == kept,
-            "{file}.rs, patched: `{call}` occurs {found} times, expected {kept}"
-        );
-    }
 }

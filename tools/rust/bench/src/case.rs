@@ -191,6 +191,7 @@ impl Case {
         Call {
             door: self.timed.door(),
             kind: Kind::Usual,
+            limit: None,
             planted: vec![],
             list: LIST.len() as u64,
             triplets: LIST.concat(),

@@ -5,40 +5,10 @@ use std::collections::BTreeMap;
 use std::path::{Path, PathBuf};
 use std::{env, fs};
 
-const PHONORS: [&str; 6] = [
-    "interaction",
-    "reciprocal_to_normal",
-    "real_to_reciprocal",
-    "imag_self_energy",
-    "common",
-    "funcs",
-];
-const ORACLE: [&str; 4] = ["doors", "refusals", "standins", "carton"];
+#[path = "../../oracle/phonors.rs"]
+mod phonors;
 
-/// What the oracle's own build changes in phonors: file, text, replacement. The fault "none" is compared with the oracle,
-/// so a difference would be seen.
-const OPENED: [(&str, &str, &str); 4] = [
-    (
-        "real_to_reciprocal",
-        "phase.sin_cos()",
-        "crate::standins::sin_cos(phase)",
-    ),
-    (
-        "funcs",
-        "(x / temperature_thz).exp()",
-        "crate::standins::exp(x / temperature_thz)",
-    ),
-    (
-        "interaction",
-        "\nfn compute_q_vecs(",
-        "\npub(crate) fn compute_q_vecs(",
-    ),
-    (
-        "imag_self_energy",
-        "\nfn set_g_pos_at_frequency_point(",
-        "\npub(crate) fn set_g_pos_at_frequency_point(",
-    ),
-];
+const ORACLE: [&str; 4] = ["doors", "refusals", "standins", "carton"];
 
 struct Change {
     file: String,
@@ -56,10 +26,10 @@ struct Fault {
 fn main() {
     let here = PathBuf::from(env::var_os("CARGO_MANIFEST_DIR").expect("set by cargo"));
     let out = PathBuf::from(env::var_os("OUT_DIR").expect("set by cargo"));
-    println!("cargo:rerun-if-env-changed=PHONORS_SRC");
     let files = base_files(&here);
     let faults = parse(&read(&here.join("faults.txt")));
     println!("cargo:rerun-if-changed=build.rs");
+    println!("cargo:rerun-if-changed=../../oracle/phonors.rs");
     let mut modules = String::new();
     let mut table = String::new();
     modules += &module(&out, "base", &files, &files, true);
@@ -85,23 +55,14 @@ fn read(path: &Path) -> String {
 
 /// The files without mistakes, by name.
 fn base_files(here: &Path) -> BTreeMap<String, String> {
-    let phonors = match env::var_os("PHONORS_SRC") {
-        Some(folder) => PathBuf::from(folder),
-        None => here.join("../../../../../shared/docs/src"),
-    };
+    let oracle = here.join("../../oracle");
+    let folder = phonors::source_folder(&oracle);
     let mut files = BTreeMap::new();
-    for name in PHONORS {
-        let mut text = read(&phonors.join(format!("src/{name}.rs")));
-        for (file, find, put) in OPENED {
-            if file == name {
-                assert!(text.contains(find), "{file}.rs: no `{}`", find.trim());
-                text = text.replace(find, put);
-            }
-        }
-        files.insert(name.to_string(), text);
+    for name in phonors::FILES {
+        files.insert(name.to_string(), phonors::patched(&folder, name));
     }
     for name in ORACLE {
-        let text = read(&here.join(format!("../../oracle/src/{name}.rs")));
+        let text = read(&oracle.join(format!("src/{name}.rs")));
         files.insert(
             name.to_string(),
             text.replace("#[cfg(test)]", "#[cfg(any())]"),

@@ -98,6 +98,60 @@ impl Kind {
     }
 }
 
+/// What stands at its limit in a set, where something does.
+#[derive(Clone, Copy, Debug, PartialEq, Eq)]
+pub enum Limit {
+    Atoms,
+    First,
+    Grid,
+    Supercell,
+    /// 65,536 of them, all named by one entry of the multiplicity.
+    Vectors,
+    List,
+    /// P = 8, S = 64, F = 24, compact.
+    LargestCell,
+    /// S = 64 with force constants in full.
+    LargestFull,
+    /// G and the number of vectors at once.
+    GridAndVectors,
+    /// P = 8, F = 24 and G = 65,536, in totals alone.
+    LargestTotals,
+    /// Vectors that are subnormal or nearly so.
+    LeastVectors,
+}
+
+impl Limit {
+    pub const ALL: [Limit; 11] = [
+        Limit::Atoms,
+        Limit::First,
+        Limit::Grid,
+        Limit::Supercell,
+        Limit::Vectors,
+        Limit::List,
+        Limit::LargestCell,
+        Limit::LargestFull,
+        Limit::GridAndVectors,
+        Limit::LargestTotals,
+        Limit::LeastVectors,
+    ];
+
+    pub fn name(self) -> &'static str {
+        match self {
+            Limit::Atoms => "P = 8",
+            Limit::First => "F = B",
+            Limit::Grid => "G = 65,536",
+            Limit::Supercell => "S = 64",
+            Limit::Vectors => "65,536 vectors, one entry",
+            Limit::List => "list of 4,096",
+            Limit::LargestCell => "P = 8, S = 64, F = 24",
+            Limit::LargestFull => "S = 64, full form",
+            Limit::GridAndVectors => "G and vectors 65,536",
+            Limit::LargestTotals => "P = 8, F = 24, G = 65,536",
+            Limit::LeastVectors => "subnormal vectors",
+        }
+    }
+}
+
 /// What only a caller through C can hand in: a number that names no choice, or an array of another length.
 #[derive(Clone, Copy, Debug, PartialEq)]
 pub enum Foreign {
@@ -124,6 +178,7 @@ pub struct Buffers {
 pub struct Call {
     pub door: Door,
     pub kind: Kind,
+    pub limit: Option<Limit>,
     /// Number and place of each planted fault.
     pub planted: Vec<(u8, String)>,
     pub set: JoinedSet,

@@ -5,13 +5,10 @@ use crate::damage;
 use crate::phases;
 use crate::random::Random;
 use crate::tables::{self, Shape};
-use oracle::carton::{seal, words_of};
+use oracle::carton::{seal, table_words, words_of, BLOCK, BLOCK_LIMIT, BLOCK_WORDS, HEADING_WORDS};
 use oracle::sets::*;
 
-const BLOCK: usize = 512;
-const BLOCK_WORDS: usize = 63;
-const MOST_WORDS: u128 = 6_048;
-const HEADING_WORDS: u128 = 25;
+const MOST_WORDS: u128 = (BLOCK_LIMIT * BLOCK_WORDS) as u128;
 /// Tells the cartons' sets from the doors'.
 const STREAM: u64 = 9;
 
@@ -106,23 +103,7 @@ pub fn carton(seed: u64, index: u64) -> Carton {
 
 /// Words of a carton with these measures, in true integers.
 fn words_needed(measures: &Measures, form: Form) -> u128 {
-    let l = Lengths::of(measures, form);
-    sum(&[
-        HEADING_WORDS,
-        l.addresses,
-        l.vectors,
-        l.multiplicity,
-        l.p2s,
-        l.s2p,
-        l.masses,
-        l.bands,
-        l.frequencies,
-        l.eigenvectors,
-        l.all_shortest,
-        l.nonzero,
-        l.force_constants,
-        3 * l.slots,
-    ])
+    sum(&[HEADING_WORDS as u128, table_words(measures, form)])
 }
 
 /// A good call of the joined door that fits 96 blocks; now and then four atoms, whose work buffer is too long.
@@ -198,7 +179,7 @@ fn flag_words(set: &StrengthsSet) -> (usize, usize) {
         + set.frequencies.len()
         + set.eigenvectors.len();
     let count = set.all_shortest.len() + set.nonzero.len() + set.flags.len();
-    (HEADING_WORDS as usize + before, count)
+    (HEADING_WORDS + before, count)
 }
 
 fn damage_words(random: &mut Random, words: &mut Vec<u64>, set: &StrengthsSet) -> String {

@@ -21,7 +21,8 @@ pub fn call(seed: u64, door: Door, index: u64) -> Call {
     }
 }
 
-/// A set within the limits; phases near or at their ends may go beyond.
+/// A set within the limits; phases near or at their ends may go beyond. Where what a kind asks for cannot be made in the set, it is
+/// counted as usual.
 fn good(random: &mut Random, door: Door, kind: Kind) -> Call {
     let shape = if kind == Kind::Limits {
         Shape::at_a_limit(random, door)
@@ -34,15 +35,21 @@ fn good(random: &mut Random, door: Door, kind: Kind) -> Call {
         _ => None,
     };
     phases::make(random, &mut call, part);
-    match kind {
+    let made = match kind {
+        Kind::Far => door.has_strengths_tables(),
         Kind::Idle => tables::make_idle(random, &mut call),
-        Kind::Edge if random.chance(4) => {
-            phases::put_beyond_in_one_order(random, &mut call);
-        }
-        Kind::Edge => {
-            phases::put_at_the_end(random, &mut call);
-        }
+        Kind::Edge if random.chance(4) => phases::put_beyond_in_one_order(random, &mut call),
+        Kind::Edge => phases::put_at_the_end(random, &mut call),
+        _ => true,
+    };
+    if !made {
+        call.kind = Kind::Usual;
+    }
+    match kind {
         Kind::Huge if random.chance(2) => tables::make_hot(random, &mut call),
+        Kind::Tiny if door.has_strengths_tables() && random.chance(4) => {
+            phases::make_least_vectors(random, &mut call)
+        }
         Kind::Tiny if random.chance(3) => tables::make_cold(random, &mut call),
         _ => (),
     }

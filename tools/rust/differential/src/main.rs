@@ -237,6 +237,9 @@ fn describe(call: &Call) -> String {
         set.form,
         set.symmetry
     );
+    if let Some(limit) = call.limit {
+        text += &format!(", at the limit {:?}", limit.name());
+    }
     if call.door == Door::List {
         text += &format!(", list {}", call.list);
     }

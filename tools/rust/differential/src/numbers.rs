@@ -45,6 +45,16 @@ fn subnormal(random: &mut Random) -> f64 {
     f64::from_bits((random.bits() >> shift).max(1))
 }
 
+/// A number of either sign that is subnormal, or becomes so when it is multiplied by a few others.
+pub fn least(random: &mut Random) -> f64 {
+    let x = match random.below(4) {
+        0 => scaled(random, -1070, -900),
+        1 => random.pick(&[5e-324, f64::MIN_POSITIVE, 0.0]),
+        _ => subnormal(random),
+    };
+    signed(random, x)
+}
+
 /// A finite number of either sign.
 pub fn number(random: &mut Random, style: Style) -> f64 {
     let x = match style {

@@ -1,34 +1,13 @@
 //! Mesh, q matrix, addresses and vectors, and with them the phases: ordinary ones, ones near ±1,048,576, and ones at the
 //! last f64 before it and the first beyond.
 
-use crate::call::Call;
+use crate::call::{Call, Limit};
+use crate::numbers;
 use crate::random::Random;
-use oracle::refusals::{self, Lent};
+use oracle::refusals::{self, pre_phase, q_vectors, Lent, LEG_ORDERS};
 use oracle::sets::*;
 use oracle::standins::{within_phase_limit, PHASE_LIMIT};
 use std::f64::consts::PI;
-
-const LEG_ORDERS: [[usize; 3]; 6] = [
-    [0, 1, 2],
-    [0, 2, 1],
-    [1, 0, 2],
-    [1, 2, 0],
-    [2, 0, 1],
-    [2, 1, 0],
-];
-
-/// q of each leg of a triplet.
-fn q_vectors(set: &StrengthsSet, triplet: [i64; 3]) -> [[f64; 3]; 3] {
-    triplet.map(|point| {
-        let address = &set.addresses[3 * point as usize..][..3];
-        let raw: [f64; 3] =
-            std::array::from_fn(|axis| address[axis] as f64 / set.mesh[axis] as f64);
-        std::array::from_fn(|row| {
-            let m = &set.q_matrix[3 * row..][..3];
-            m[0] as f64 * raw[0] + m[1] as f64 * raw[1] + m[2] as f64 * raw[2]
-        })
-    })
-}
 
 fn vector(set: &StrengthsSet, place: usize) -> [f64; 3] {
     std::array::from_fn(|axis| set.vectors[3 * place + axis])
@@ -38,16 +17,6 @@ fn vector(set: &StrengthsSet, place: usize) -> [f64; 3] {
 fn pre_vector(set: &StrengthsSet, atom: usize) -> usize {
     let entry = set.p2s[atom] as usize * set.measures.atoms as usize;
     set.multiplicity[2 * entry + 1] as usize
-}
-
-/// Phase of a pre-factor: the vector dotted with the sum of the three q, summed in the order given.
-fn pre_phase(s: [f64; 3], q: &[[f64; 3]; 3], order: [usize; 3]) -> f64 {
-    let [a, b, c] = order.map(|leg| q[leg]);
-    let mut phase = 0.0;
-    for axis in 0..3 {
-        phase += s[axis] * (a[axis] + b[axis] + c[axis]);
-    }
-    phase * (2.0 * PI)
 }
 
 /// Greatest magnitude of the phases of these triplets, in all six orders of the legs; infinity where one is NaN.
@@ -74,7 +43,7 @@ fn greatest_phase(set: &StrengthsSet, triplets: &[[i64; 3]]) -> f64 {
         for atom in 0..set.p2s.len() {
             let s = vector(set, pre_vector(set, atom));
             for order in LEG_ORDERS {
-                note(pre_phase(s, &q, order));
+                note(pre_phase(s, order.map(|leg| q[leg])));
             }
         }
     }
@@ -149,6 +118,17 @@ pub fn make(random: &mut Random, call: &mut Call, part: Option<f64>) {
     if random.chance(8) {
         spoil_unnamed(random, set);
     }
+}
+
+/// Makes all vectors subnormal or nearly so, or half of their components.
+pub fn make_least_vectors(random: &mut Random, call: &mut Call) {
+    let one_in = random.pick(&[1, 2]);
+    for x in &mut call.set.strengths.vectors {
+        if random.chance(one_in) {
+            *x = numbers::least(random);
+        }
+    }
+    call.limit = Some(Limit::LeastVectors);
 }
 
 /// Vectors that no entry names are free of the phases' limit.
@@ -242,8 +222,8 @@ pub fn put_beyond_in_one_order(random: &mut Random, call: &mut Call) -> bool {
         let q = q_vectors(set, triplet);
         let near = PHASE_LIMIT / (2.0 * PI) / (q[0][0] + q[1][0] + q[2][0]);
         let x = f64::from_bits(near.to_bits().wrapping_add_signed(random.between(-2, 2)));
-        let within =
-            LEG_ORDERS.map(|order| within_phase_limit(pre_phase([x, 0.0, 0.0], &q, order)));
+        let within = LEG_ORDERS
+            .map(|order| within_phase_limit(pre_phase([x, 0.0, 0.0], order.map(|leg| q[leg]))));
         if within[0] && within.contains(&false) {
             set.vectors[3 * place] = x;
             return true;

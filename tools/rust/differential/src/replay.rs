@@ -1,12 +1,13 @@
 //! A stream of cartons with the oracle's answers, for the program `key_replay`.
 
 use crate::cartons;
+use oracle::carton::{BLOCK, BLOCK_LIMIT};
 use std::collections::HashMap;
 
 /// No more of a file matters: a 97th block has begun.
-const ENOUGH: usize = 96 * 512 + 1;
+const ENOUGH: usize = BLOCK_LIMIT * BLOCK + 1;
 /// Cartons up to this length are taken, longer ones only at every `RARE`th index.
-const SHORT: usize = 4 * 512;
+const SHORT: usize = 4 * BLOCK;
 const RARE: u64 = 500;
 /// Of the cartons with one refusal, at most the `SHARE`th part of all are taken.
 const SHARE: usize = 16;

@@ -1,12 +1,13 @@
 //! Random tables of a set within the limits: measures, indices, flags and numbers.
 
-use crate::call::{Buffers, Call, Door, Kind};
+use crate::call::{Buffers, Call, Door, Kind, Limit};
 use crate::numbers::{self, any_table, Style};
 use crate::random::Random;
 use oracle::sets::*;
 
 /// Measures, list length and choices, before any table is made.
 pub struct Shape {
+    pub limit: Option<Limit>,
     pub measures: Measures,
     pub list: u64,
     pub form: Form,
@@ -26,6 +27,7 @@ impl Shape {
     pub fn random(random: &mut Random, door: Door) -> Shape {
         let atoms = 1 + random.weighted(&ATOMS) as u64;
         let mut shape = Shape {
+            limit: None,
             measures: Measures {
                 atoms,
                 supercell: supercell(random, atoms),
@@ -89,17 +91,15 @@ impl Shape {
         27 * rows * self.measures.supercell.pow(2)
     }
 
-    /// One measure at its limit, the others small enough for it.
+    /// One measure at its limit, or several, the others small enough for them.
     pub fn at_a_limit(random: &mut Random, door: Door) -> Shape {
         let mut shape = Shape::random(random, door);
+        let (limits, weights) = limits(door);
+        let limit = limits[random.weighted(weights)];
+        shape.limit = Some(limit);
         let m = &mut shape.measures;
-        let limits = match door {
-            Door::Totals => 3,
-            Door::List => 6,
-            _ => 5,
-        };
-        match random.below(limits) {
-            0 => {
+        match limit {
+            Limit::Atoms => {
                 *m = Measures {
                     atoms: 8,
                     supercell: m.supercell.min(8),
@@ -109,39 +109,96 @@ impl Shape {
                 shape.list = shape.list.min(2);
                 shape.symmetry = symmetry(random, 8);
             }
-            1 => m.first = 3 * m.atoms,
-            2 => {
-                *m = Measures {
-                    atoms: 1,
-                    supercell: m.supercell.min(3),
-                    first: m.first.min(3),
-                    grid: 65_536,
-                    vectors: m.vectors,
-                };
+            Limit::First => m.first = 3 * m.atoms,
+            Limit::Grid => {
+                shape.small_cell(1, 3);
+                shape.measures.grid = 65_536;
             }
-            3 => {
+            Limit::Supercell => {
                 m.supercell = 64;
                 m.atoms = m.atoms.min(2);
                 m.first = m.first.min(3 * m.atoms);
                 shape.form = Form::Compact;
                 shape.list = 1;
             }
-            4 => {
-                m.atoms = 1;
-                m.first = m.first.min(3);
-                m.supercell = m.supercell.min(3);
-                m.vectors = 65_536;
+            Limit::Vectors => {
+                shape.small_cell(1, 2);
+                shape.measures.vectors = 65_536;
                 shape.list = shape.list.min(2);
+                shape.symmetry = symmetry(random, 5);
             }
-            _ => {
-                m.atoms = 1;
-                m.first = m.first.min(2);
-                m.supercell = m.supercell.min(2);
-                shape.symmetry = Symmetry::Off;
+            Limit::List => {
+                shape.small_cell(1, 2);
+                shape.symmetry = symmetry(random, 4);
                 shape.list = 4_096;
             }
+            Limit::LargestCell => {
+                *m = Measures {
+                    atoms: 8,
+                    supercell: 64,
+                    first: 24,
+                    ..*m
+                };
+                shape.form = Form::Compact;
+                shape.symmetry = symmetry(random, 1);
+                shape.list = 1;
+            }
+            Limit::LargestFull => {
+                m.supercell = 64;
+                m.atoms = m.atoms.min(2);
+                m.first = m.first.min(3 * m.atoms);
+                shape.form = Form::Full;
+                shape.list = 1;
+            }
+            Limit::GridAndVectors => {
+                shape.small_cell(random.pick(&[1, 1, 1, 2]), 3);
+                shape.measures.grid = 65_536;
+                shape.measures.vectors = 65_536;
+                shape.list = shape.list.min(2);
+            }
+            Limit::LargestTotals => {
+                m.atoms = 8;
+                m.first = 24;
+                m.grid = 65_536;
+            }
+            Limit::LeastVectors => (),
         }
         shape
+    }
+
+    /// So many atoms, and at most so many in the supercell.
+    fn small_cell(&mut self, atoms: u64, supercell: u64) {
+        let m = &mut self.measures;
+        m.atoms = atoms;
+        m.first = m.first.min(3 * atoms);
+        m.supercell = m.supercell.min(supercell);
+    }
+}
+
+/// The limits of a door, and how likely each is; the larger the sets, the rarer.
+fn limits(door: Door) -> (&'static [Limit], &'static [usize]) {
+    const ALL: [Limit; 9] = [
+        Limit::Atoms,
+        Limit::First,
+        Limit::Grid,
+        Limit::Supercell,
+        Limit::Vectors,
+        Limit::LargestCell,
+        Limit::LargestFull,
+        Limit::GridAndVectors,
+        Limit::List,
+    ];
+    const WEIGHTS: [usize; 9] = [20, 20, 20, 20, 30, 4, 2, 3, 12];
+    const TOTALS: [Limit; 4] = [
+        Limit::Atoms,
+        Limit::First,
+        Limit::Grid,
+        Limit::LargestTotals,
+    ];
+    match door {
+        Door::Totals => (&TOTALS, &[20, 20, 20, 3]),
+        Door::List => (&ALL, &WEIGHTS),
+        _ => (&ALL[..8], &WEIGHTS[..8]),
     }
 }
 
@@ -281,7 +338,8 @@ fn s2p(random: &mut Random, m: &Measures, p2s: &[i64]) -> Vec<i64> {
 }
 
 /// (count, start) for each entry; counts are small, or reach to the last vector.
-fn multiplicity(random: &mut Random, m: &Measures) -> Vec<i64> {
+fn multiplicity(random: &mut Random, shape: &Shape) -> Vec<i64> {
+    let m = &shape.measures;
     let vectors = m.vectors as i64;
     let mut entries = Vec::new();
     for _ in 0..m.supercell * m.atoms {
@@ -298,6 +356,10 @@ fn multiplicity(random: &mut Random, m: &Measures) -> Vec<i64> {
     if random.chance(3) {
         let last = entries.len() - 2;
         entries[last] = vectors - entries[last + 1];
+    }
+    if shape.limit == Some(Limit::Vectors) {
+        let whole = random.below(entries.len() / 2);
+        entries[2 * whole..][..2].copy_from_slice(&[vectors, 0]);
     }
     entries
 }
@@ -359,7 +421,7 @@ pub fn call(random: &mut Random, door: Door, kind: Kind, shape: &Shape) -> Call 
         addresses: vec![0; only(tables, all.addresses) as usize],
         vectors: vec![0.0; only(tables, all.vectors) as usize],
         multiplicity: if tables {
-            multiplicity(random, &m)
+            multiplicity(random, shape)
         } else {
             vec![]
         },
@@ -402,6 +464,7 @@ pub fn call(random: &mut Random, door: Door, kind: Kind, shape: &Shape) -> Call 
     Call {
         door,
         kind,
+        limit: shape.limit,
         planted: vec![],
         list: shape.list,
         triplets: if door == Door::List {
@@ -451,23 +514,32 @@ pub fn triplet(random: &mut Random, grid: u64) -> [i64; 3] {
     points
 }
 
-/// Leaves nothing to work in one of several ways.
-pub fn make_idle(random: &mut Random, call: &mut Call) {
+/// Leaves nothing to work in one of several ways; true if nothing is left.
+pub fn make_idle(random: &mut Random, call: &mut Call) -> bool {
+    let ways = if call.door.has_strengths_tables() {
+        4
+    } else {
+        2
+    };
     let tables = &mut call.set.strengths;
-    match random.below(4) {
+    match random.below(ways) {
         0 => tables.flags.fill(random.pick(&[1, 2, 128, 255])),
-        1 => tables.nonzero.fill(0),
-        2 => {
+        1 => {
             let most = tables.frequencies.iter().copied().fold(0.0, f64::max);
             tables.settings.cutoff = most;
         }
+        2 => tables.nonzero.fill(0),
         _ => {
             // No supercell atom is an image, where some atom is none of the primitive cell's.
             let supercell = tables.measures.supercell as i64;
             let nobody = (0..supercell).find(|atom| !tables.p2s.contains(atom));
-            tables.s2p.fill(nobody.unwrap_or(0));
+            match nobody {
+                Some(nobody) => tables.s2p.fill(nobody),
+                None => return false,
+            }
         }
     }
+    true
 }
 
 /// Makes the sums of one component of one atom overflow, and that component zero in some bands, which must pass it.

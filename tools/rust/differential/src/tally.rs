@@ -1,6 +1,6 @@
 //! Counts of what was compared: for each door the answers, the kinds and the planted faults; for `key` what it prints, and the kinds of cartons.
 
-use crate::call::{Call, Door, Kind};
+use crate::call::{Call, Door, Kind, Limit};
 use crate::cartons::CartonKind;
 use crate::doors::UNKNOWN;
 
@@ -10,6 +10,8 @@ struct DoorTally {
     /// By answer; 10 stands for an unknown choice.
     answers: [u64; 11],
     kinds: [u64; 12],
+    /// Accepted sets with something at its limit.
+    limits: [u64; 11],
     alone: [u64; 10],
     pairs: [[u64; 10]; 10],
 }
@@ -31,6 +33,9 @@ impl Tally {
             None => (),
         }
         tally.kinds[call.kind as usize] += 1;
+        if let (Some(limit), Some(0)) = (call.limit, answer) {
+            tally.limits[limit as usize] += 1;
+        }
         match call.planted[..] {
             [(a, _)] => tally.alone[usize::from(a)] += 1,
             [(a, _), (b, _)] => tally.pairs[usize::from(a)][usize::from(b)] += 1,
@@ -50,6 +55,7 @@ impl Tally {
             a.sets += b.sets;
             add(&mut a.answers, &b.answers);
             add(&mut a.kinds, &b.kinds);
+            add(&mut a.limits, &b.limits);
             add(&mut a.alone, &b.alone);
             for (c, d) in a.pairs.iter_mut().zip(&b.pairs) {
                 add(c, d);
@@ -95,18 +101,28 @@ impl Tally {
             }
             text += "\n";
         }
-        text += &format!("\n{:26}", "kind");
-        for &door in &worked {
-            text += &format!("{:>9}", door.name());
-        }
-        text += "\n";
-        for kind in Kind::ALL {
-            text += &format!("{:26}", kind.name());
+        let mut counts = |title: &str, rows: &[&str], count: &dyn Fn(&DoorTally, usize) -> u64| {
+            text += &format!("\n{title:28}");
             for &door in &worked {
-                text += &format!("{:>9}", self.doors[door as usize].kinds[kind as usize]);
+                text += &format!("{:>9}", door.name());
             }
             text += "\n";
-        }
+            for (place, row) in rows.iter().enumerate() {
+                text += &format!("{row:28}");
+                for &door in &worked {
+                    text += &format!("{:>9}", count(&self.doors[door as usize], place));
+                }
+                text += "\n";
+            }
+        };
+        counts("kind", &Kind::ALL.map(Kind::name), &|tally, place| {
+            tally.kinds[place]
+        });
+        counts(
+            "at a limit, accepted",
+            &Limit::ALL.map(Limit::name),
+            &|tally, place| tally.limits[place],
+        );
         for &door in &worked {
             text += &self.pairs_report(door);
         }
@@ -115,11 +131,23 @@ impl Tally {
 
     fn pairs_report(&self, door: Door) -> String {
         let numbers = door.numbers();
-        let mut text = format!("\nfaults planted, {}: alone, then with each\n", door.name());
+        let mut text = format!(
+            "\n{:21}{:>7}",
+            format!("faults planted, {}", door.name()),
+            "alone"
+        );
+        for number in numbers {
+            text += &format!("{:>7}", format!("and {number}"));
+        }
+        text += "\n";
         for &lower in numbers {
-            text += &format!("{lower:>4}{:>8} ", self.alone(door, lower));
-            for &higher in numbers.iter().filter(|&&higher| higher >= lower) {
-                text += &format!("{higher:>5}:{:<5}", self.pairs(door, lower, higher));
+            text += &format!("{lower:>21}{:>7}", self.alone(door, lower));
+            for &higher in numbers {
+                if higher >= lower {
+                    text += &format!("{:>7}", self.pairs(door, lower, higher));
+                } else {
+                    text += &format!("{:>7}", "");
+                }
             }
             text += "\n";
         }
@@ -174,9 +202,9 @@ impl CartonTally {
         for count in &self.numbers[1..] {
             text += &format!("{count:>7}");
         }
-        text += &format!("\n\n{:26}{:>9}\n", "kind", "key");
+        text += &format!("\n\n{:28}{:>9}\n", "kind", "key");
         for kind in CartonKind::ALL {
-            text += &format!("{:26}{:>9}\n", kind.name(), self.kinds[kind as usize]);
+            text += &format!("{:28}{:>9}\n", kind.name(), self.kinds[kind as usize]);
         }
         text
     }

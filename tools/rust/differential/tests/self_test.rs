@@ -10,7 +10,7 @@ use differential::tally::Tally;
 use oracle::sets::{work_size, Symmetry};
 
 const SEED: u64 = 2;
-const SETS: u64 = 1_200;
+const SETS: u64 = 2_400;
 
 fn expected(call: &Call) -> Outcome {
     differential::compare::expected(call).expect("the oracle's outcome")

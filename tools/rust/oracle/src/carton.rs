@@ -4,11 +4,12 @@
 use crate::doors;
 use crate::sets::*;
 
-const BLOCK: usize = 512;
-const BLOCK_WORDS: usize = 63;
-const BLOCK_LIMIT: usize = 96;
+/// Bytes of a block, words in it, and the most blocks of a file.
+pub const BLOCK: usize = 512;
+pub const BLOCK_WORDS: usize = 63;
+pub const BLOCK_LIMIT: usize = 96;
 /// Edition, five measures, flag bits, weight, cutoff, temperature, mesh, q matrix, triplet.
-const HEADING_WORDS: usize = 25;
+pub const HEADING_WORDS: usize = 25;
 const WORK_LIMIT: u128 = 6_144;
 const EDITION: u64 = 1;
 const COMPACT: u64 = 1;
@@ -103,7 +104,7 @@ fn block_words(block: &[u8]) -> Vec<u64> {
 }
 
 /// The tables of a carton in file order after the heading: number of words.
-fn table_words(measures: &Measures, form: Form) -> u128 {
+pub fn table_words(measures: &Measures, form: Form) -> u128 {
     let l = Lengths::of(measures, form);
     let integers = [l.addresses, l.multiplicity, l.p2s, l.s2p, l.bands];
     let numbers = [

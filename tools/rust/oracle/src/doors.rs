@@ -9,6 +9,7 @@ use crate::interaction::{get_interaction, get_interaction_at_triplet, Interactio
 use crate::real_to_reciprocal::AtomTriplets;
 use crate::refusals::{self, Lent};
 use crate::sets::*;
+use std::ops::Range;
 
 /// Strengths of one triplet.
 pub fn one_triplet(
@@ -104,24 +105,24 @@ fn clear_work(measures: &Measures, work: &mut [f64]) {
 }
 
 /// A flat table as rows of N.
-pub(crate) fn rows<T: Copy, const N: usize>(flat: &[T]) -> Vec<[T; N]> {
+pub fn rows<T: Copy, const N: usize>(flat: &[T]) -> Vec<[T; N]> {
     flat.chunks_exact(N)
         .map(|row| std::array::from_fn(|place| row[place]))
         .collect()
 }
 
 /// The q matrix as the source takes it.
-pub(crate) fn matrix(flat: [i64; 9]) -> [[i64; 3]; 3] {
+pub fn matrix(flat: [i64; 9]) -> [[i64; 3]; 3] {
     std::array::from_fn(|row| std::array::from_fn(|column| flat[row * 3 + column]))
 }
 
 /// The source's flags are signed bytes; it asks only whether they are zero.
-fn signed(flags: &[u8]) -> Vec<i8> {
+pub fn signed(flags: &[u8]) -> Vec<i8> {
     flags.iter().map(|&flag| flag as i8).collect()
 }
 
 /// The tables of a set in the shapes that the source takes.
-pub(crate) struct SourceTables<'a> {
+pub struct SourceTables<'a> {
     set: &'a StrengthsSet,
     addresses: Vec<[i64; 3]>,
     vectors: Vec<[f64; 3]>,
@@ -133,7 +134,7 @@ pub(crate) struct SourceTables<'a> {
 }
 
 impl<'a> SourceTables<'a> {
-    pub(crate) fn of(set: &'a StrengthsSet) -> Self {
+    pub fn of(set: &'a StrengthsSet) -> Self {
         SourceTables {
             set,
             addresses: rows(&set.addresses),
@@ -161,9 +162,21 @@ impl<'a> SourceTables<'a> {
     }
 
     pub(crate) fn work_triplet(&self, triplet: [i64; 3], strengths: &mut [f64]) {
+        let slots = 0..self.flags.len();
+        self.work_slots(triplet, slots, strengths, &mut InteractionScratch::new());
+    }
+
+    /// One triplet, whose flags stand at `slots` among all flags, as the source's driver works it.
+    pub fn work_slots(
+        &self,
+        triplet: [i64; 3],
+        slots: Range<usize>,
+        strengths: &mut [f64],
+        scratch: &mut InteractionScratch,
+    ) {
         get_interaction_at_triplet(
             strengths,
-            &self.flags,
+            &self.flags[slots],
             self.set.measures.first as usize,
             3 * self.set.measures.atoms as usize,
             &self.set.frequencies,
@@ -180,7 +193,7 @@ impl<'a> SourceTables<'a> {
             self.set.symmetry == Symmetry::Symmetrized,
             self.set.settings.cutoff,
             false,
-            &mut InteractionScratch::new(),
+            scratch,
         );
     }
 

@@ -19,7 +19,7 @@ const Q_MATRIX: RangeInclusive<i64> = -4_096..=4_096;
 const WEIGHT: RangeInclusive<i64> = 1..=2_147_483_647;
 
 /// The six orders of the legs.
-const LEG_ORDERS: [[usize; 3]; 6] = [
+pub const LEG_ORDERS: [[usize; 3]; 6] = [
     [0, 1, 2],
     [0, 2, 1],
     [1, 0, 2],
@@ -270,6 +270,16 @@ fn phases_beyond(set: &StrengthsSet, triplets: &[[i64; 3]]) -> bool {
     })
 }
 
+/// q of each leg of a triplet.
+pub fn q_vectors(set: &StrengthsSet, triplet: [i64; 3]) -> [[f64; 3]; 3] {
+    compute_q_vecs(
+        triplet,
+        &rows(&set.addresses),
+        set.mesh,
+        matrix(set.q_matrix),
+    )
+}
+
 fn leg_phases_beyond(set: &StrengthsSet, vectors: &[[f64; 3]], q: [f64; 3]) -> bool {
     set.multiplicity.chunks(2).any(|entry| {
         let (count, start) = (entry[0] as usize, entry[1] as usize);
@@ -295,7 +305,7 @@ fn pre_phases_beyond(set: &StrengthsSet, vectors: &[[f64; 3]], q: &[[f64; 3]; 3]
 }
 
 /// Phase of the pre-factor: the vector dotted with the sum of the three q, summed in the order given.
-fn pre_phase(s: [f64; 3], q: [[f64; 3]; 3]) -> f64 {
+pub fn pre_phase(s: [f64; 3], q: [[f64; 3]; 3]) -> f64 {
     let mut phase = 0.0;
     for axis in 0..3 {
         phase += s[axis] * (q[0][axis] + q[1][axis] + q[2][axis]);
