@@ -2,49 +2,17 @@
 
 mod common;
 
-use common::{bits, crystal, crystal_list, Cell};
+use common::{bits, crystal, crystal_list, crystals, digest, ORACLE_DIGEST};
 use wirambolo::*;
 
 fn numbers(bits: &[u64]) -> Vec<f64> {
     bits.iter().map(|&x| f64::from_bits(x)).collect()
 }
 
-/// The crystal in each of its settings.
-fn crystals() -> Vec<Cell> {
-    let mut cells = Vec::new();
-    for form in [Form::Compact, Form::Full] {
-        for anchoring in [Anchoring::Plain, Anchoring::Averaged] {
-            for symmetry in [Symmetry::Off, Symmetry::Symmetrized] {
-                for temperature in [0.0, 1.75] {
-                    cells.push(crystal().with(|c| {
-                        let lengths = Lengths::of(&c.measures, form);
-                        c.form = form;
-                        c.nonzero.truncate(lengths.nonzero);
-                        c.constants.truncate(lengths.constants);
-                        c.settings.anchoring = anchoring;
-                        c.symmetry = symmetry;
-                        c.bath.temperature = temperature;
-                    }));
-                }
-            }
-        }
-    }
-    cells
-}
-
-/// Strengths and totals have the bits that the oracle (`tools/rust/oracle`) leaves, by their digest (FNV-1a, little-endian).
+/// Strengths and totals have the bits that the oracle (`tools/rust/oracle`) leaves, by their digest.
 #[test]
 fn oracle_bits() {
-    let mut state = 0xcbf2_9ce4_8422_2325u64;
-    for cell in crystals() {
-        let left = cell.joined();
-        for bits in left.strengths.iter().chain(&left.totals) {
-            for byte in bits.to_le_bytes() {
-                state = (state ^ u64::from(byte)).wrapping_mul(0x0000_0100_0000_01b3);
-            }
-        }
-    }
-    assert_eq!(state, 0xdb59_cc90_d6cf_1dad);
+    assert_eq!(digest(&crystals()), ORACLE_DIGEST);
 }
 
 /// The joined function's strengths are one triplet's, and its totals those of totals alone.

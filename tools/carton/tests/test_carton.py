@@ -67,7 +67,7 @@ def hand_made_u():
     return file
 
 
-# SHA-256 of the cartons that the encoder of tools/rust/oracle makes of the key cases
+# SHA-256 of the cartons that the encoder of tools/rust/oracle makes of the key cases; its test key_cases makes them again
 ORACLE = {
     "m1": "ffde496be57e2c00c39be83f0ed18fbdd3b3bfebdfce70124fb1999810494110",
     "m2": "d153cdfd1470d23759d033eeda234a40ed9f7739037a7558a6c3fabdff0c47b2",

@@ -274,3 +274,43 @@ pub fn crystal_list() -> Cell {
         cell.strengths = vec![-1.0; 2 * slots];
     })
 }
+
+/// The crystal in each of its settings.
+pub fn crystals() -> Vec<Cell> {
+    let mut cells = Vec::new();
+    for form in [Form::Compact, Form::Full] {
+        for anchoring in [Anchoring::Plain, Anchoring::Averaged] {
+            for symmetry in [Symmetry::Off, Symmetry::Symmetrized] {
+                for temperature in [0.0, 1.75] {
+                    cells.push(crystal().with(|c| {
+                        let lengths = Lengths::of(&c.measures, form);
+                        c.form = form;
+                        c.nonzero.truncate(lengths.nonzero);
+                        c.constants.truncate(lengths.constants);
+                        c.settings.anchoring = anchoring;
+                        c.symmetry = symmetry;
+                        c.bath.temperature = temperature;
+                    }));
+                }
+            }
+        }
+    }
+    cells
+}
+
+/// What the oracle leaves of the crystals, by its digest; a test of `tools/rust/differential` makes it again.
+pub const ORACLE_DIGEST: u64 = 0xdb59_cc90_d6cf_1dad;
+
+/// FNV-1a of strengths and totals that the joined function leaves, cell by cell, little-endian.
+pub fn digest(cells: &[Cell]) -> u64 {
+    let mut state = 0xcbf2_9ce4_8422_2325u64;
+    for cell in cells {
+        let left = cell.joined();
+        for bits in left.strengths.iter().chain(&left.totals) {
+            for byte in bits.to_le_bytes() {
+                state = (state ^ u64::from(byte)).wrapping_mul(0x0000_0100_0000_01b3);
+            }
+        }
+    }
+    state
+}

@@ -1,5 +1,8 @@
 //! Document 01's key cases M1 to M11, every number compared by its bits.
 
+mod sha256;
+
+use oracle::carton::encode;
 use oracle::cell_u::{cell_u, element, slot};
 use oracle::doors;
 use oracle::sets::*;
@@ -238,5 +241,24 @@ fn totals_door() {
             case.name
         );
         assert_eq!(bits(&totals), bits(&case.totals), "{}", case.name);
+    }
+}
+
+/// The tests of tools/carton hold the digests of these cartons; they are made here.
+#[test]
+fn carton_digests() {
+    let tests = include_str!("../../../carton/tests/test_carton.py");
+    let mut cartons: Vec<(String, JoinedSet)> = cases()
+        .into_iter()
+        .map(|case| (case.name.to_lowercase(), case.set))
+        .collect();
+    let example = changed(|set| {
+        set.strengths.flags.fill(1);
+        set.strengths.flags[slot(0, 1, 2)] = 0;
+    });
+    cartons.push(("example".to_string(), example));
+    for (name, set) in cartons {
+        let line = format!("\"{name}\": \"{}\",", sha256::hex(&encode(&set)));
+        assert!(tests.contains(&line), "{line}");
     }
 }
