@@ -5,6 +5,7 @@ use bench::case::{Case, Timed};
 use bench::measure::measure;
 use bench::{plot, report};
 use differential::doors::Doors;
+use differential::progress::Line;
 use std::process::ExitCode;
 
 const USAGE: &str = include_str!("../usage.txt");
@@ -65,23 +66,24 @@ fn main() -> ExitCode {
 
 fn run(wanted: &Wanted) -> Result<(), String> {
     let (doors, name) = library();
+    let mut line = Line::new();
     let mut rows = Vec::new();
     for timed in Timed::ALL {
         if !wanted.words.is_empty() && !wanted.words.iter().any(|word| word == timed.word()) {
             continue;
         }
         for case in Case::all(timed) {
-            eprint!(
-                "\r{} {} {} P = {}\x1b[K",
+            line.show(&format!(
+                "{} {} {} P = {}",
                 timed.name(),
                 case.choices(),
                 case.flags(),
                 case.atoms
-            );
+            ));
             rows.push((case, measure(&case, doors, wanted.rounds)?));
         }
     }
-    eprint!("\r\x1b[K");
+    line.clear();
     let table = report::markdown(&rows, wanted.rounds, name);
     print!("{table}");
     let write = |file: &Option<String>, text: &str| match file {

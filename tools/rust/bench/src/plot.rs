@@ -194,7 +194,7 @@ fn door_panels(rows: &[Row], timed: Timed, top: f64) -> (String, f64) {
     };
     let name = timed.name();
     let mut svg = ratio.frame(&format!("{name}: time of Rattle over time of Rust"));
-    svg += &time.frame(&format!("{name}: µs a call, Rattle filled, Rust hollow"));
+    svg += &time.frame(&format!("{name}: µs a triplet, Rattle filled, Rust hollow"));
     let one = ratio.up(1.0);
     svg += &line(ratio.x, one, ratio.x + WIDTH, one, "#444");
     for series in &all {

@@ -7,7 +7,7 @@ use crate::random::Random;
 use crate::tables::{self, Shape};
 
 /// Kinds in the order of `Kind::ALL`, each as likely as its weight.
-const WEIGHTS: [usize; 12] = [140, 110, 45, 80, 70, 20, 40, 10, 90, 220, 200, 25];
+const WEIGHTS: [usize; 12] = [140, 110, 45, 80, 70, 20, 40, 12, 90, 220, 200, 25];
 
 /// The set with this index; the same for the same arguments on any machine.
 pub fn call(seed: u64, door: Door, index: u64) -> Call {

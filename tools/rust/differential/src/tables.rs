@@ -122,10 +122,10 @@ impl Shape {
                 shape.list = 1;
             }
             Limit::Vectors => {
-                shape.small_cell(1, 2);
+                shape.small_cell(1, random.pick(&[1, 1, 2]));
                 shape.measures.vectors = 65_536;
-                shape.list = shape.list.min(2);
-                shape.symmetry = symmetry(random, 5);
+                shape.list = 1;
+                shape.symmetry = symmetry(random, 8);
             }
             Limit::List => {
                 shape.small_cell(1, 2);
@@ -188,7 +188,7 @@ fn limits(door: Door) -> (&'static [Limit], &'static [usize]) {
         Limit::GridAndVectors,
         Limit::List,
     ];
-    const WEIGHTS: [usize; 9] = [20, 20, 20, 20, 30, 4, 2, 3, 12];
+    const WEIGHTS: [usize; 9] = [20, 20, 20, 20, 50, 5, 2, 3, 12];
     const TOTALS: [Limit; 4] = [
         Limit::Atoms,
         Limit::First,
@@ -407,7 +407,11 @@ pub fn call(random: &mut Random, door: Door, kind: Kind, shape: &Shape) -> Call 
     });
     let triplets = table(u128::from(shape.list), || triplet(random, m.grid));
     let own = own_frequencies(&frequencies, &m, triplets[0]);
-    let nonzero_in = random.pick(&[1, 2, 2, 3, 10]);
+    let mut nonzero_in = random.pick(&[1, 2, 2, 3, 10]);
+    if shape.limit == Some(Limit::Vectors) {
+        // The one long entry is to be worked.
+        nonzero_in = 1;
+    }
     let strengths = StrengthsSet {
         measures: m,
         settings: Settings {
