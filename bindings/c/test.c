@@ -431,7 +431,7 @@ static void crystals(void)
         CHECK(joined_door(&joined) == WIRAMBOLO_ACCEPTED);
         CHECK(same(other.strengths + slots, joined.strengths, slots));
     }
-    /* The digest of bindings/rust/tests/doors.rs: of the strengths and totals that the oracle (tools/oracle) leaves. */
+    /* The digest of bindings/rust/tests/doors.rs: of the strengths and totals that the oracle (tools/rust/oracle) leaves. */
     CHECK(digest == UINT64_C(0xdb59cc90d6cf1dad));
 }
 
