@@ -143,7 +143,7 @@ pub totals-per-slot : totalsOutcome (totals1 PerSlot 18) ≡ record { answer = a
 unfolding computed
 totals-per-slot = refl
 
--- ---- refusals of cell U: table number n is altered, for n from 0, which is none, to 19
+-- ---- refusals of a set of cell U's measures with one first band: table number n is altered, for n from 0, which is none, to 19
 
 abbrev numbers : List ℕ
 numbers = table 20 (λ n. n)
@@ -229,6 +229,16 @@ phase-of-an-order = refl
 
 -- ---- a refused call leaves all as it was
 
-pub untouched : tripletOutcome (phasesU Symmetrized) ≡ record { answer = answerFor 9; strengths = replicate 9 f0; work = replicate 203 f0 }
+pub untouched : tripletOutcome (phasesU Symmetrized) ≡ record { answer = answerFor 9; strengths = replicate 9 minus1; work = replicate 203 minus1 }
 unfolding computed
 untouched = refl
+
+-- a NaN in the vectors
+pub list-untouched : listOutcome (listU (starting nan 1) asIs asIs) ≡ record { answer = answerFor 4; strengths = replicate 18 minus1; work = replicate 203 minus1 }
+unfolding computed
+list-untouched = refl
+
+-- a NaN in the frequencies
+pub totals-untouched : totalsOutcome (totalsU (starting nan 11) asIs asIs) ≡ record { answer = answerFor 4; totals = minus1 ∷ [] }
+unfolding computed
+totals-untouched = refl

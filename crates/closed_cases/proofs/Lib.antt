@@ -1,1 +1,2 @@
+-- The closed cases, computed.
 pub mod ClosedCases

@@ -184,7 +184,7 @@ totals1 weights entries = record {
   totals = replicate 2 minus1;
 }
 
--- ---- cell U with each table altered: fs, zs and ns alter table number n where they are given its number
+-- ---- a set of cell U's measures with one first band, each table altered: fs, zs and ns alter table number n where they are given its number
 
 module _ (fs : ℕ → List Float → List Float) (zs : ℕ → List ℤ → List ℤ) (ns : ℕ → List ℕ → List ℕ) where
   unfoldable pub tablesU : Tables
@@ -215,7 +215,7 @@ module _ (fs : ℕ → List Float → List Float) (zs : ℕ → List ℤ → Lis
   }
 
   unfoldable pub tripletU : TripletSet
-  tripletU = record { tables = tablesU; triplet = zs 22 (pos 0 ∷ pos 0 ∷ pos 0 ∷ []); flags = ns 13 (replicate 9 0); strengths = fs 14 (replicate 9 f0); work = fs 15 (replicate 203 f0) }
+  tripletU = record { tables = tablesU; triplet = zs 22 (pos 0 ∷ pos 0 ∷ pos 0 ∷ []); flags = ns 13 (replicate 9 0); strengths = fs 14 (replicate 9 minus1); work = fs 15 (replicate 203 minus1) }
 
   unfoldable pub listU : ListSet
   listU = record {
@@ -223,8 +223,8 @@ module _ (fs : ℕ → List Float → List Float) (zs : ℕ → List ℤ → Lis
     list = 2;
     triplets = zs 16 (replicate 6 (pos 0));
     flags = ns 13 (replicate 18 0);
-    strengths = fs 14 (replicate 18 f0);
-    work = fs 15 (replicate 203 f0);
+    strengths = fs 14 (replicate 18 minus1);
+    work = fs 15 (replicate 203 minus1);
   }
 
   unfoldable pub joinedU : JoinedSet
@@ -235,9 +235,9 @@ module _ (fs : ℕ → List Float → List Float) (zs : ℕ → List ℤ → Lis
     bath = record { weight = pos 3; temperature = f0 };
     first = fs 17 (replicate 9 f2);
     second = fs 18 (replicate 9 f0);
-    strengths = fs 14 (replicate 9 f0);
-    totals = fs 19 (f0 ∷ []);
-    work = fs 15 (replicate 203 f0);
+    strengths = fs 14 (replicate 9 minus1);
+    totals = fs 19 (minus1 ∷ []);
+    work = fs 15 (replicate 203 minus1);
   }
 
   unfoldable pub totalsU : TotalsSet
@@ -252,7 +252,7 @@ module _ (fs : ℕ → List Float → List Float) (zs : ℕ → List ℤ → Lis
     bath = record { weight = pos 3; temperature = f0 };
     first = fs 17 (replicate 9 f2);
     second = fs 18 (replicate 9 f0);
-    totals = fs 19 (f0 ∷ []);
+    totals = fs 19 (minus1 ∷ []);
   }
 
 -- table number n one shorter, or one longer
@@ -293,6 +293,6 @@ phasesU symmetry = record {
   };
   triplet = pos 0 ∷ pos 1 ∷ pos 2 ∷ [];
   flags = replicate 9 0;
-  strengths = replicate 9 f0;
-  work = replicate 203 f0;
+  strengths = replicate 9 minus1;
+  work = replicate 203 minus1;
 }

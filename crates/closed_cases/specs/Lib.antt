@@ -1,1 +1,2 @@
+-- The sets of the closed cases.
 pub mod ClosedCases
