@@ -1,16 +1,16 @@
 -- Laws of folds and tables.
 use Prim.Native.Nat.{ℕ, zero, suc, _+_, _-_, _*_, _/_, _%_, _<_, _≤_}
-use native.Mathlib.Nat.{add-zero, zero-mul, suc-mul, mul-le-mul-right, mul-add-div-right, mul-add-mod-self-right, div-eq-of-lt, mod-eq-of-lt}
+use native.Mathlib.Nat.{add-zero, zero-mul, suc-mul, mul-le-mul-right}
 use native.Mathlib.Omega.{arith}
 use native.Mathlib.Numerals.{add-one}
 use native.Mathlib.Decide.{decLt}
 use mathlib.Core.Path.{_≡_, refl, sym, ap, ap₂, _∙_}
-use mathlib.Core.List.{List, [], _∷_, _++_, append-assoc}
-use lib.ListN.{getD, length, take, drop, set, length-append, length-drop}
-use lib.Seq.{drop-append-le, take-append-le, drop-at, take-all, drop-cons, set-at, append-snoc}
-use lib.Ieee.{Float, nan}
+use mathlib.Core.List.{List, [], _∷_, _++_}
+use lib.Arith.{digits-lt, digits-div, digits-mod}
+use lib.ListN.{getD, length, take, drop, length-append, length-drop}
+use lib.Seq.{drop-append-le, take-append-le, drop-at, take-all, getD-take, getD-drop, length-take-le}
 use Rattle.phonon.specs.declared.Complex.{Complex}
-use Rattle.phonon.specs.Number.{fold, tableFrom, table, at}
+use Rattle.phonon.specs.Number.{fold, tableFrom, table}
 use Rattle.phonon.specs.Common.{cnan, cat, pairs, ctable}
 
 pub fold-ext : {A : Type 0} (n : ℕ) (s : A) (f g : ℕ → A → A) → ((i : ℕ) → i < n → (a : A) → f i a ≡ g i a) → fold n s f ≡ fold n s g
@@ -76,12 +76,22 @@ ctable-at n k f l = pairs-at (table n f) k ∙ table-at n k f cnan l
 
 module _ (B : ℕ) {k : ℕ} (l : k < B) where
   pub div-of : (a : ℕ) → (a * B + k) / B ≡ a
-  div-of a =
-      let p : 0 < B = omega arith in
-      mul-add-div-right p a k ∙ ap (λ (x : ℕ). a + x) (div-eq-of-lt l) ∙ add-zero a
+  div-of a = digits-div a l
 
   pub mod-of : (a : ℕ) → (a * B + k) % B ≡ k
-  mod-of a = mul-add-mod-self-right a B k ∙ mod-eq-of-lt l
+  mod-of a = digits-mod a l
+
+-- entry y of row x, of n rows with B entries each
+pub pair-lt : {n B x y : ℕ} → x < n → y < B → x * B + y < n * B
+pair-lt p q = digits-lt p q
+
+-- ---- n entries of a list, from entry off on
+
+pub part-at : {A : Type 0} (l : List A) (off n k : ℕ) (d : A) → k < n → getD (take n (drop off l)) k d ≡ getD l (off + k) d
+part-at l off n k d h = getD-take n (drop off l) k d h ∙ getD-drop off l k d
+
+pub part-size : {A : Type 0} (l : List A) (off n : ℕ) → off + n ≤ length l → length (take n (drop off l)) ≡ n
+part-size l off n h = length-take-le n (drop off l) (omega (arith, length-drop off l))
 
 -- ---- lists joined from parts of one length
 
@@ -115,20 +125,7 @@ module _ {A : Type 0} (n : ℕ) (f : ℕ → List A) (sized : (t : ℕ) → leng
           let a : length (f m) ≤ n = omega (arith, sized m) in
           ap (take n) (drop-at (joined m) (f m) (t * n) k) ∙ take-all n (f m) a ∙ ap f (sym e)
 
--- entry y of row x, of n rows with B entries each
-pub pair-lt : {n B x y : ℕ} → x < n → y < B → x * B + y < n * B
-pair-lt {n} {B} {x} {y} p q =
-    let a : suc x * B ≤ n * B = mul-le-mul-right B p in
-    let e : suc x * B ≡ x * B + B = suc-mul x B in
-    omega arith
-
--- ---- what holds of two folds step by step holds of their results
-
-pub fold-rel : {A B : Type 0} (R : A → B → Type 0) (n : ℕ) (s : A) (t : B) (f : ℕ → A → A) (g : ℕ → B → B)
-    → R s t → ((i : ℕ) → i < n → (a : A) (b : B) → R a b → R (f i a) (g i b)) → R (fold n s f) (fold n t g)
-unfolding fold
-fold-rel R zero s t f g r h = r
-fold-rel R (suc n) s t f g r h = h n (omega arith) (fold n s f) (fold n t g) (fold-rel R n s t f g r (λ i l. h i (omega arith)))
+-- ---- turns of a fold
 
 -- a fold in two parts
 pub fold-add : {A : Type 0} (m n : ℕ) (s : A) (f : ℕ → A → A) → fold (m + n) s f ≡ fold n (fold m s f) (λ i. f (m + i))
@@ -154,44 +151,3 @@ tableFrom-snoc i (suc n) f =
 pub table-snoc : {A : Type 0} (n : ℕ) (f : ℕ → A) → table (n + 1) f ≡ table n f ++ (f n ∷ [])
 unfolding table
 table-snoc n f = let e : 0 + n ≡ n = omega arith in rw (add-one n) (tableFrom-snoc 0 n f ∙ rw e)
-
-pairs-append : (l m : List Complex) → pairs (l ++ m) ≡ pairs l ++ pairs m
-unfolding pairs
-pairs-append [] m = refl
-pairs-append (c ∷ l) m = ap (λ x. c .re ∷ (c .im ∷ x)) (pairs-append l m)
-
-pub ctable-snoc : (n : ℕ) (f : ℕ → Complex) → ctable (n + 1) f ≡ ctable n f ++ (f n .re ∷ (f n .im ∷ []))
-unfolding ctable pairs
-ctable-snoc n f = ap pairs (table-snoc n f) ∙ pairs-append (table n f) (f n ∷ [])
-
-pairs-length : (l : List Complex) → length (pairs l) ≡ 2 * length l
-unfolding pairs
-pairs-length [] = refl
-pairs-length (c ∷ l) = let e = pairs-length l in omega arith
-
-pub ctable-length : (n : ℕ) (f : ℕ → Complex) → length (ctable n f) ≡ 2 * n
-unfolding ctable
-ctable-length n f = pairs-length (table n f) ∙ ap (λ x. 2 * x) (table-length n f)
-
--- A loop that fills a buffer o with a table of complex numbers: after n turns the table's first n stand before what is left of o.
--- The turn that stores number n.
-pub store-pair : (n : ℕ) (f : ℕ → Complex) (o : List Float) (x y : Float) → x ≡ f n .re → y ≡ f n .im → 2 * n + 1 < length o
-    → set (set (ctable n f ++ drop (2 * n) o) (2 * n) x) (2 * n + 1) y ≡ ctable (n + 1) f ++ drop (2 * (n + 1)) o
-store-pair n f o x y p q l =
-    let a = ctable n f in
-    let e : length a ≡ 2 * n = ctable-length n f in
-    let b : Float = getD o (2 * n) nan in
-    let c : Float = getD o (suc (2 * n)) nan in
-    let r : List Float = drop (suc (suc (2 * n))) o in
-    let d : drop (2 * n) o ≡ b ∷ (c ∷ r) =
-    drop-cons o (2 * n) nan (omega arith) ∙ ap (λ z. b ∷ z) (drop-cons o (suc (2 * n)) nan (omega arith)) in
-    let g : length (a ++ (x ∷ [])) ≡ 2 * n + 1 = length-append a (x ∷ []) ∙ ap (λ z. z + 1) e in
-    let h : 2 * (n + 1) ≡ suc (suc (2 * n)) = omega arith in
-    ap (λ z. set (set (a ++ z) (2 * n) x) (2 * n + 1) y) d
-    ∙ ap (λ z. set z (2 * n + 1) y) (set-at a b (c ∷ r) x (2 * n) e)
-    ∙ ap (λ z. set z (2 * n + 1) y) (sym (append-snoc a x (c ∷ r)))
-    ∙ set-at (a ++ (x ∷ [])) c r y (2 * n + 1) g
-    ∙ append-snoc a x (y ∷ r)
-    ∙ sym (ap₂ (λ u v. u ++ v) (ctable-snoc n f) (ap (λ z. drop z o) h)
-    ∙ append-assoc a (f n .re ∷ (f n .im ∷ [])) r
-    ∙ ap₂ (λ u v. a ++ (u ∷ (v ∷ r))) (sym p) (sym q))

@@ -7,8 +7,7 @@ use mathlib.Core.Bool.{Bool, true, false, cond}
 use mathlib.Core.List.{List, []}
 use lib.Dec.{T}
 use lib.Ieee.{Float, nan, lt, le}
-use lib.ListN.{getD, length, drop}
-use lib.Seq.{getD-take, getD-drop}
+use lib.ListN.{getD, length}
 use Rattle.phonon.specs.declared.Answer.the-variants.{Accepted}
 use Rattle.phonon.specs.declared.Symmetry.{Symmetry}
 use Rattle.phonon.specs.declared.Symmetry.the-variants.{Off, Symmetrized}
@@ -22,7 +21,7 @@ use Rattle.phonon.specs.ImagSelfEnergy.{Sum, second1, third2, counted, s
 use Rattle.phonon.specs.Refusal.{tripletRefusal, listRefusal, totalsRefusal, joinedRefusal}
 use Rattle.phonon.specs.Doors.{answerFor, tripletLeaves, tripletOutcome, listLeaves, listOutcome, totalsLeaves, totalsOutcome, joinedWith, joinedLeaves, joinedOutcome}
 use Rattle.phonon.specs.Demand3.{Run, one, joined, share, IsAccepted, worked, written, Narrowed, Unchanged, Stays, IsSlot, Kept, SameStrength, SameBath, SameElse, SameSlot, Demand3}
-use Rattle.phonon.proofs.Laws.{fold-ext, ctable-ext, table-at, table-length, div-of, mod-of, joined-part, pair-lt}
+use Rattle.phonon.proofs.Laws.{fold-ext, ctable-ext, table-at, table-length, div-of, mod-of, joined-part, pair-lt, part-at}
 use Rattle.phonon.proofs.Order.{to-T, is-false, lt-not-le, le-lt}
 
 -- ---- above the cutoff, the cutoff has no part in a strength
@@ -152,16 +151,12 @@ strengths-length : (t : Triplet) (v : List Float) → length (strengths t v) ≡
 unfolding strengths strengthsWith
 strengths-length t v = table-length (slots (t .tables .measures)) _
 
--- an entry of part t of a list
-part-at : (n t m : ℕ) (l : List Float) → m < n → at (part n t l) m ≡ at l (t * n + m)
-part-at n t m l h = getD-take n (drop (t * n) l) m nan h ∙ getD-drop (t * n) l m nan
-
 list-at : (s : ListSet) (t m : ℕ) → t < s .list → m < slots (s .tables .measures)
     → at (listStrengths s) (t * slots (s .tables .measures) + m) ≡ at (strengths (ofList s t) (part (slots (s .tables .measures)) t (s .strengths))) m
 unfolding listStrengths
 list-at s t m p q =
     let N : ℕ = slots (s .tables .measures) in
-    sym (part-at N t m _ q)
+    sym (part-at _ (t * N) N m nan q)
     ∙ ap (λ l. at l m) (joined-part N (λ x. strengths (ofList s x) (part N x (s .strengths))) (λ x. strengths-length (ofList s x) (part N x (s .strengths))) (s .list) t p)
 
 -- ---- an answer that accepts fixes what is left

@@ -1,3 +1,4 @@
+-- The definitions: the numbers, what a door is handed, the work, the limits and refusals, what the doors leave; key cases and demand 3.
 pub mod Number
 pub mod Common
 pub mod Root

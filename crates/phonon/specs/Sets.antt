@@ -26,6 +26,16 @@ pub record Forces : Type 0 where
   -- element l * 9 + m * 3 + n of row i, supercell atoms j and k: entry ((i * S + j) * S + k) * 27 + (l * 9 + m * 3 + n)
   pub constants : List Float
 
+abbrev pub forcesOf : Form → List ℤ → List ℤ → List ℕ → List ℕ → List Float → Forces
+forcesOf form p2s s2p shortest nonzero constants = record {
+  form = form;
+  p2s = p2s;
+  s2p = s2p;
+  shortest = shortest;
+  nonzero = nonzero;
+  constants = constants;
+}
+
 -- the rest of what is known of the atoms
 pub record Crystal : Type 0 where
   -- vector v: entries 3 * v to 3 * v + 2
