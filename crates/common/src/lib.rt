@@ -1,4 +1,4 @@
-// common.rs: complex numbers. Beside them the root, which the language lacks.
+// common.rs: complex numbers. Beside them the root, which the language lacks, and whole numbers as f64.
 use phonon::Complex;
 ghost use mathlib.Core.Path.{_≡_};
 ghost use mathlib.Core.Bool.{false};

@@ -13,7 +13,8 @@ use lib.Ieee.Fits.{down-pos, and-l, and-r}
 use lib.Ieee.Order.{round-mono}
 use Rattle.phonon.specs.Number.{bits}
 use Rattle.funcs.specs.Floor.{Within}
-use Rattle.funcs.proofs.Compare.{le-cases, le-flip, negative-zero}
+use Rattle.phonon.proofs.Order.{at-most, at-most′}
+use Rattle.funcs.proofs.Compare.{negative-zero}
 
 -- ---- rounding is the same on both sides of zero
 neg-odd : (d q k l : ℕ) → odd d true q k l ≡ neg (odd d false q k l)
@@ -63,7 +64,7 @@ between K L (fin false m e) nan p lo hi h = absurd h
 between K L (fin false m e) (inf t) p lo hi h = absurd h
 between K L (fin false m e) (fin true n d) p lo hi h = absurd (true≢false (h .0))
 between K L (fin false m e) (fin false n d) p lo hi h =
-    let l : m * up e * down d ≤ n * up d * down e = le-cases _ _ hi in
+    let l : m * up e * down d ≤ n * up d * down e = at-most _ _ true hi in
     le-of-mul-le-mul-right
     (le-trans (le-of-eq (mul-right-comm (m * up e) L (down d)))
     (le-trans (mul-le-mul-right L l)
@@ -134,5 +135,5 @@ tested x h = go x (and-l (le (bits 0xC130_0000_0000_0000) x) (le x (bits 0x4130_
     go nan lo hi = absurd lo
     go (inf true) lo hi = absurd lo
     go (inf false) lo hi = absurd hi
-    go (fin true m e) lo hi = omega (arith, le-flip (1 * 1048576 * down e) (m * up e * 1) lo)
-    go (fin false m e) lo hi = omega (arith, le-cases (m * up e * 1) (1 * 1048576 * down e) hi)
+    go (fin true m e) lo hi = omega (arith, at-most′ (1 * 1048576 * down e) (m * up e * 1) true lo)
+    go (fin false m e) lo hi = omega (arith, at-most (m * up e * 1) (1 * 1048576 * down e) true hi)

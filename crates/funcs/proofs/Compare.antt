@@ -1,32 +1,15 @@
 -- What a comparison of two f64 says of their magnitudes, each m * 2 ^ e a fraction m * up e / down e. Assumes nothing.
-use mathlib.Core.Path.{_≡_, refl, ap, _∙_, sym, subst}
+use mathlib.Core.Path.{_≡_, refl, ap, _∙_}
 use mathlib.Core.Bool.{Bool, true, false, _||_, _&&_, Bool·beq, cond, true≢false}
 use Prim.Native.Nat.{ℕ, _*_, _≤_, _<_}
 use native.Mathlib.Decide.{decLt}
 use native.Mathlib.Omega.{arith}
 use lib.IntN.{ℤ, pos}
-use lib.Dec.{T, ltb, eqb, eqb→eq, ltb→lt}
+use lib.Dec.{T, ltb, eqb, eqb→eq}
 use borrow.Author.Tests.{le-ltb, lt-ltb, eq-eqb}
 use lib.Ieee.{Float, fin, up, down, lt, le, eq, ofBits}
 use lib.Ieee.Fits.{and-l}
 use Rattle.phonon.specs.Number.{f0}
-
--- of two f64 of one sign: the tests that `le` makes
-pub le-cases : (a b : ℕ) → T (ltb a b || (eqb a b && true)) → a ≤ b
-le-cases a b t = go (ltb a b) refl (eqb a b) refl t
-  where
-    go : (u : Bool) → ltb a b ≡ u → (v : Bool) → eqb a b ≡ v → T (u || (v && true)) → a ≤ b
-    go true e v f t = let h : a < b = ltb→lt a b (subst T (sym e) tt) in omega arith
-    go false e true f t = let h : a ≡ b = eqb→eq a b (subst T (sym f) tt) in omega arith
-    go false e false f t = absurd t
-
-pub le-flip : (a b : ℕ) → T (ltb b a || (eqb a b && true)) → b ≤ a
-le-flip a b t = go (ltb b a) refl (eqb a b) refl t
-  where
-    go : (u : Bool) → ltb b a ≡ u → (v : Bool) → eqb a b ≡ v → T (u || (v && true)) → b ≤ a
-    go true e v f t = let h : b < a = ltb→lt b a (subst T (sym e) tt) in omega arith
-    go false e true f t = let h : a ≡ b = eqb→eq a b (subst T (sym f) tt) in omega arith
-    go false e false f t = absurd t
 
 le-holds : (a b : ℕ) → a ≤ b → (ltb a b || (eqb a b && true)) ≡ true
 le-holds a b h = go (decLt a b)

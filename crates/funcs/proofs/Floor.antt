@@ -1,13 +1,13 @@
 -- The whole number that the code finds is the definition's floor, which is the greatest not above. Assumes nothing.
 use mathlib.Core.Path.{_≡_, refl, ap, _∙_, sym, subst}
-use mathlib.Core.Bool.{Bool, true, false, _||_, _&&_, true≢false}
+use mathlib.Core.Bool.{Bool, true, false, true≢false}
 use Prim.Native.Nat.{ℕ, zero, suc, _+_, _-_, _*_, _/_, _%_, _^_, _≤_, _<_}
 use native.Mathlib.Nat.{le-trans, le-of-eq, lt-of-lt-of-le, lt-of-le-of-lt, lt-irrefl, mul-one, one-mul, mul-right-comm, mul-lt-mul-of-pos-right, lt-of-mul-lt-mul-right, le-of-mul-le-mul-right, add-mul, div-lt-iff-lt-mul, div-mul-le-self, div-eq-of-lt-le, min-eq-left, suc-mul}
 use native.Mathlib.Decide.{decLt}
 use native.Mathlib.Numerals.{add-one}
 use native.Mathlib.Omega.{arith}
-use lib.IntN.{ℤ, pos, negsuc, negℤ}
-use lib.Dec.{T, eqb, lt→ltb, lit<, lit≤}
+use lib.IntN.{ℤ, pos, negsuc, negℤ, sucℤ}
+use lib.Dec.{T, lt→ltb, lit<, lit≤}
 use borrow.Author.Tests.{ltb-true, ltb-false}
 use lib.Ieee.{Float, nan, inf, fin, binary64, up, down, lt, le, eq, neg, round, ofBits, ofInt, toUnsigned}
 use lib.Ieee.Exact.{HasValue}
@@ -15,7 +15,8 @@ use lib.Ieee.Back.{round-whole}
 use lib.Ieee.Fits.{down-pos}
 use Rattle.phonon.specs.Number.{f0}
 use Rattle.phonon.specs.Trig.{floor, quadrant}
-use Rattle.funcs.specs.Floor.{Within, AtMost, next}
+use Rattle.phonon.proofs.Order.{level-zero}
+use Rattle.funcs.specs.Floor.{Within, AtMost}
 use Rattle.funcs.proofs.Compare.{nonneg, negative-zero}
 use Rattle.funcs.proofs.Bounds.{neg-round}
 
@@ -89,16 +90,13 @@ not-less (fin false n d) t m e h l =
     let k : n * up d ≡ t * down d = sym (mul-one (n * up d)) ∙ h .1 in
     le-of-mul-le-mul-right (le-trans (ltb-false (n * up d * down e) (m * up e * down d) l) (le-of-eq (ap (λ (x : ℕ). x * down e) k ∙ mul-right-comm t (down d) (down e)))) (down-pos d)
 
-same-zero : (a b : ℕ) → a ≡ 0 → b ≡ 0 → (eqb a b && (false || eqb a 0)) ≡ true
-same-zero a b p q = ap (λ (n : ℕ). eqb n b && (false || eqb n 0)) p ∙ ap (λ (n : ℕ). eqb 0 n && (false || true)) q
-
 negative : (m : ℕ) (e : ℤ) → le f0 (fin true m e) ≡ false → 0 < m * up e
 unfolding le lt eq ofBits
 negative m e l = go (decLt 0 (m * up e))
   where
     go : Dec (0 < m * up e) → 0 < m * up e
     go (yes h) = h
-    go (no f) = absurd (true≢false (sym (same-zero (0 * 1 * down e) (m * up e * 1) (omega arith) (omega arith)) ∙ l))
+    go (no f) = absurd (true≢false (sym (level-zero false true (0 * 1 * down e) (m * up e * 1) (omega arith) (omega arith)) ∙ l))
 
 -- the next whole number up from a magnitude X, D the denominator
 ceil-next : (X D t : ℕ) → t * D < X → X < (t + 1) * D → (X + D - 1) / D ≡ t + 1
@@ -166,12 +164,12 @@ under-next X D q p h =
     let a : suc q * D ≤ X + D - 1 = subst (λ (n : ℕ). n * D ≤ X + D - 1) h (div-mul-le-self (X + D - 1) D) in
     omega (arith, suc-mul q D)
 
-floor-negative : (m : ℕ) (e : ℤ) (q : ℕ) → (m * up e + down e - 1) / down e ≡ q → AtMost (negℤ (pos q)) (fin true m e) × (AtMost (next (negℤ (pos q))) (fin true m e) → ⊥)
+floor-negative : (m : ℕ) (e : ℤ) (q : ℕ) → (m * up e + down e - 1) / down e ≡ q → AtMost (negℤ (pos q)) (fin true m e) × (AtMost (sucℤ (negℤ (pos q))) (fin true m e) → ⊥)
 floor-negative m e zero h = (omega (arith, upper (m * up e) (down e) 0 (down-pos e) h), λ z. lt-irrefl 0 (omega (arith, z, down-pos e, one-mul (down e))))
 floor-negative m e (suc zero) h = (upper (m * up e) (down e) 1 (down-pos e) h, λ z. lt-irrefl 0 (omega (arith, z, under-next (m * up e) (down e) 0 (down-pos e) h)))
 floor-negative m e (suc (suc q)) h = (upper (m * up e) (down e) (suc (suc q)) (down-pos e) h, λ z. lt-irrefl 0 (omega (arith, z, under-next (m * up e) (down e) (suc q) (down-pos e) h)))
 
-pub floor-greatest : (s : Bool) (m : ℕ) (e : ℤ) → AtMost (floor (fin s m e)) (fin s m e) × (AtMost (next (floor (fin s m e))) (fin s m e) → ⊥)
+pub floor-greatest : (s : Bool) (m : ℕ) (e : ℤ) → AtMost (floor (fin s m e)) (fin s m e) × (AtMost (sucℤ (floor (fin s m e))) (fin s m e) → ⊥)
 unfolding floor
 floor-greatest false m e =
     (div-mul-le-self (m * up e) (down e), λ z. lt-irrefl 0 (omega (arith, z, suc-mul (m * up e / down e) (down e), add-mul (m * up e / down e) 1 (down e), one-mul (down e), div-lt-iff-lt-mul {k = down e} {x = m * up e} {y = m * up e / down e + 1} (down-pos e) .0 (omega arith))))

@@ -13,7 +13,8 @@ use Rattle.phonon.specs.Number.{f1}
 use Rattle.phonon.specs.Exp.{byRange, exp}
 use Rattle.phonon.specs.Funcs.{excess, boseEinstein}
 use Rattle.funcs.specs.Occupation.{Unsigned}
-use Rattle.funcs.proofs.Compare.{le-cases, pick-no}
+use Rattle.phonon.proofs.Order.{at-most}
+use Rattle.funcs.proofs.Compare.{pick-no}
 use Rattle.funcs.proofs.Signs.{unsigned-cond, unsigned-round}
 use Rattle.funcs.proofs.ExpLeast.{exp-least}
 
@@ -25,7 +26,7 @@ unsigned-less-one (inf true) h = absurd h
 unsigned-less-one (inf false) h = tt
 unsigned-less-one (fin true m e) h = absurd (let z : 1 * 1 * down e ≡ 0 = eqb→eq _ _ (and-r (eqb (1 * 1 * down e) (m * up e * 1)) (eqb (1 * 1 * down e) 0) h) in omega (arith, down-pos e))
 unsigned-less-one (fin false m e) h =
-    let l : 1 * 1 * down e ≤ m * up e * 1 = le-cases _ _ h in
+    let l : 1 * 1 * down e ≤ m * up e * 1 = at-most _ _ true h in
     subst Unsigned (sym (pick-no (ltb (m * up e * 1) (1 * 1 * down e)) _ _ (le-ltb (m * up e * 1) (1 * 1 * down e) l))) (unsigned-round (m * up e * 1 - 1 * 1 * down e) (down e * 1))
 
 -- one over it

@@ -13,7 +13,8 @@ use lib.Ieee.Order.{round-mono}
 use lib.Ieee.Scale.{round-same}
 use lib.Ieee.Positive.{mul-mono, cross→le, positive}
 use Rattle.phonon.specs.Number.{f0}
-use Rattle.funcs.proofs.Compare.{le-cases, negative-zero}
+use Rattle.phonon.proofs.Order.{at-most}
+use Rattle.funcs.proofs.Compare.{negative-zero}
 
 -- x = m * 2 ^ e is at most n * 2 ^ d, which is below B: so x is below B
 below-bound : (m : ℕ) (e : ℤ) (n : ℕ) (d : ℤ) (B : ℕ) → n * up d < B * down d → m * up e * down d ≤ n * up d * down e → m * up e < B * down e
@@ -37,7 +38,7 @@ whole-part (fin true m e) n d B h b big lo hi =
     let p : 0 < down e = down-pos e in
     record { above = lt→ltb (m * up e * 1) (1 * 1 * down e) (omega arith); under = lt→ltb 0 (m * up e * 1 + 1 * 2 ^ 64 * down e) (omega arith); small = b }
 whole-part (fin false m e) n d B h b big lo hi =
-    let s : m * up e < B * down e = below-bound m e n d B h (le-cases _ _ hi) in
+    let s : m * up e < B * down e = below-bound m e n d B h (at-most _ _ true hi) in
     let p : 0 < down e = down-pos e in
     record {
       above = lt→ltb 0 (1 * 1 * down e + m * up e * 1) (omega arith);

@@ -18,7 +18,8 @@ use lib.Ieee.Scale.{round-same}
 use Rattle.phonon.specs.Number.{f0, whole}
 use Rattle.phonon.specs.Exp.{count, remainder}
 use Rattle.funcs.specs.Occupation.{Unsigned}
-use Rattle.funcs.proofs.Compare.{le-cases, pick-no}
+use Rattle.phonon.proofs.Order.{at-most}
+use Rattle.funcs.proofs.Compare.{pick-no}
 use Rattle.funcs.proofs.Range.{limit, log2e, exp-whole, limited}
 use Rattle.funcs.proofs.Bounds.{inside-sum, inside-difference, Inside, inside-positive, inside-round}
 use Rattle.funcs.proofs.Signs.{Lower, lower-inside, lower-difference, unsigned-round, Plus, plus-round}
@@ -36,7 +37,7 @@ floor-half (fin false n d) nan j h l = absurd h
 floor-half (fin false n d) (inf t) j h l = absurd h
 floor-half (fin false n d) (fin true m e) j h l = absurd (true≢false (h .0))
 floor-half (fin false n d) (fin false m e) j h l =
-    let c : n * up d * down e ≤ m * up e * down d = le-cases _ _ l in
+    let c : n * up d * down e ≤ m * up e * down d = at-most _ _ true l in
     let b : n * up d * 2 ≤ (2 * j + 1) * down d =
     le-of-mul-le-mul-right (le-trans (le-of-eq (mul-right-comm (n * up d) 2 (down e))) (le-trans (mul-le-mul-right 2 c) (le-of-eq (mul-right-comm (m * up e) (down d) 2 ∙ ap (λ (x : ℕ). x * down d) (h .1) ∙ mul-right-comm (2 * j + 1) (down e) (down d))))) (down-pos e) in
     let f : (2 * j + 1) * down d ≡ 2 * (j * down d) + down d = add-mul (2 * j) 1 (down d) ∙ ap (λ (x : ℕ). x + 1 * down d) (mul-assoc 2 j (down d)) ∙ ap (λ (x : ℕ). 2 * (j * down d) + x) (one-mul (down d)) in
@@ -52,7 +53,7 @@ floor-ge (fin false n d) nan j K p s h l = absurd h
 floor-ge (fin false n d) (inf t) j K p s h l = absurd h
 floor-ge (fin false n d) (fin true m e) j K p s h l = absurd (true≢false (h .0))
 floor-ge (fin false n d) (fin false m e) j K p s h l =
-    let c : m * up e * down d ≤ n * up d * down e = le-cases _ _ l in
+    let c : m * up e * down d ≤ n * up d * down e = at-most _ _ true l in
     let v : m * up e ≡ j * down e = sym (mul-one (m * up e)) ∙ h .1 in
     let b : j * down d ≤ n * up d = le-of-mul-le-mul-right (le-trans (le-of-eq (mul-right-comm j (down d) (down e) ∙ ap (λ (x : ℕ). x * down d) (sym v))) c) (down-pos e) in
     le-min (go (decLe j (n * up d / down d)) b) (omega arith)

@@ -14,7 +14,8 @@ use lib.Ieee.Fits.{down-pos}
 use lib.Ieee.Order.{round-mono}
 use Rattle.phonon.specs.Number.{f1}
 use Rattle.funcs.specs.Occupation.{Unsigned}
-use Rattle.funcs.proofs.Compare.{le-cases, pick-no}
+use Rattle.phonon.proofs.Order.{at-most}
+use Rattle.funcs.proofs.Compare.{pick-no}
 use Rattle.funcs.proofs.Bounds.{neg-round, Inside, inside-positive, inside-round}
 
 -- ---- no NaN and no sign
@@ -129,7 +130,7 @@ least-of K L nan (fin false m e) h l p = absurd h
 least-of K L (inf s) (fin false m e) h l p = absurd h
 least-of K L (fin true n d) (fin false m e) h l p = absurd (true≢false (h .0))
 least-of K L (fin false n d) (fin false m e) h l p =
-    let c : n * up d * down e ≤ m * up e * down d = le-cases _ _ l in
+    let c : n * up d * down e ≤ m * up e * down d = at-most _ _ true l in
     le-of-mul-le-mul-right
     (le-trans (le-of-eq (mul-right-comm K (down e) (down d) ∙ ap (λ (x : ℕ). x * down e) (sym (h .1)) ∙ mul-right-comm (n * up d) L (down e)))
     (le-trans (mul-le-mul-right L c) (le-of-eq (mul-right-comm (m * up e) (down d) L))))

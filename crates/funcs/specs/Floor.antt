@@ -1,6 +1,6 @@
 -- In what sense the definition's `floor` is the greatest whole number not above, and a bound on a number's size.
 use mathlib.Core.Bool.{true, false}
-use Prim.Native.Nat.{ℕ, zero, suc, _+_, _*_, _≤_}
+use Prim.Native.Nat.{ℕ, suc, _+_, _*_, _≤_}
 use lib.IntN.{ℤ, pos, negsuc}
 use lib.Ieee.{Float, nan, inf, fin, up, down}
 
@@ -12,12 +12,6 @@ AtMost (pos n) (fin false m e) = n * down e ≤ m * up e
 AtMost (pos n) (fin true m e) = n * down e + m * up e ≤ 0
 AtMost (negsuc n) (fin false m e) = Unit
 AtMost (negsuc n) (fin true m e) = m * up e ≤ suc n * down e
-
--- z + 1
-abbrev pub next : ℤ → ℤ
-next (pos n) = pos (suc n)
-next (negsuc zero) = pos 0
-next (negsuc (suc n)) = negsuc n
 
 -- finite, and of magnitude at most K
 abbrev pub Within : ℕ → Float → Type 0

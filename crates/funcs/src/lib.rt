@@ -120,7 +120,7 @@ pub fn exp(x: f64) -> f64
 }
 
 // The exponentials of two numbers.
-pub fn exp_two(x: f64, y: f64) -> Two
+fn exp_two(x: f64, y: f64) -> Two
     ensures { λ r. ⌜ (r .one ≡ Exp.exp x) × (r .two ≡ Exp.exp y) ⌝ }
 {
     if is_reducible(x) & is_reducible(y) {

@@ -1,8 +1,8 @@
 -- `common::root` meets its contract: the digits are the whole number nearest to a root, and with half the exponent they
 -- are the pattern of the definition's value. Assumes nothing.
-use mathlib.Core.Path.{_≡_, refl, sym, ap, subst, _∙_}
+use mathlib.Core.Path.{_≡_, refl, sym, subst, _∙_}
 use mathlib.Core.Logic.{⊎-elim}
-use mathlib.Core.Bool.{Bool, true, false, true≢false, Bool·beq, _||_}
+use mathlib.Core.Bool.{true, false, true≢false, Bool·beq, _||_}
 use Prim.Native.Nat.{ℕ, zero, suc, _-_, _*_, _/_, _^_, _≤_, _<_}
 use native.Mathlib.Nat.{lt-irrefl, mul-pos, zero-lt-suc}
 use borrow.Author.Needs.{needs}
@@ -11,10 +11,11 @@ use native.Mathlib.Omega.{arith}
 use lib.Dec.{T, eqb, eqb→eq}
 use lib.Ieee.Fits.{and-l, up-pos}
 use denote.Floats.{passes}
-use lib.Ieee.{Float, nan, inf, fin, binary64, ofBits, lt, eq, div, up, down, level}
+use lib.Ieee.{Float, nan, inf, fin, binary64, ofBits, lt, eq, div, up, down}
 use lib.Ieee.Exact.{HasValue}
 use lib.Ieee.Bits.{ofBits-toBits}
 use Rattle.phonon.specs.Root.{root}
+use Rattle.phonon.proofs.Order.{level-zero}
 use Rattle.common.proofs.RootLaws.{digits-low, digits-high}
 use Rattle.common.proofs.RootFloat.{not-nan, pattern-pos, infinite, root-is, pattern-is, even-split, odd-split, units-pattern}
 use Rattle.common.proofs.root.Statement.{statement}
@@ -94,16 +95,12 @@ zero-root (fin s (suc m) e) h =
 returns-3 : tie.Need-returns-3
 returns-3 c = zero-root (c .before .before .args .x) (c .if4 .taken)
 
-same-zero : (s : Bool) (a b : ℕ) → a ≡ 0 → b ≡ 0 → level s a false b ≡ true
-same-zero true a b p q = ap (λ (n : ℕ). level true n false b) p ∙ ap (λ (n : ℕ). level true 0 false n) q
-same-zero false a b p q = ap (λ (n : ℕ). level false n false b) p ∙ ap (λ (n : ℕ). level false 0 false n) q
-
 no-root : (x : Float) → lt (ofBits binary64 0) x ≡ false → eq x (ofBits binary64 0) ≡ false → nan ≡ root x
 unfolding lt eq ofBits root
 no-root nan l h = refl
 no-root (inf true) l h = refl
 no-root (inf false) l h = absurd (true≢false l)
-no-root (fin s zero e) l h = absurd (true≢false (sym (same-zero s (0 * up e * 1) (0 * 1 * down e) (omega arith) (omega arith)) ∙ h))
+no-root (fin s zero e) l h = absurd (true≢false (sym (level-zero s false (0 * up e * 1) (0 * 1 * down e) (omega arith) (omega arith)) ∙ h))
 no-root (fin true (suc m) e) l h = refl
 no-root (fin false (suc m) e) l h = absurd (lt-irrefl 0 (omega (arith, mul-pos (zero-lt-suc m) (up-pos e), ltb-false (0 * 1 * down e) (suc m * up e * 1) l)))
 
