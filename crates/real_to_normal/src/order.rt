@@ -1,4 +1,4 @@
-// One leg order of one triplet: the force constants in reciprocal space, and what the slots take of it.
+// One leg order of one triplet: the force constants in reciprocal space.
 use phonon::Anchoring;
 use phonon::Form;
 use real_to_reciprocal::phases::pre_phase_factors;
@@ -6,6 +6,7 @@ use real_to_reciprocal::real_to_reciprocal;
 ghost use mathlib.Core.Path.{_≡_};
 ghost use Prim.Native.Nat.{ℕ, _+_, _*_, _^_, _<_, _≤_};
 ghost use lib.ListN.{length};
+ghost use Rattle.phonon.specs.Sets.{forcesOf};
 ghost use Rattle.phonon.specs.Interaction.{leg};
 ghost use Rattle.phonon.specs.RealToReciprocal.{phaseFactors};
 ghost use Rattle.planes.specs.Region.{Kept};
@@ -68,27 +69,14 @@ pub fn order_constants(
         × (x2 < 3)
         × (scratchAt np ns ≤ length (now w))
         × Anchored (now vectors) (now multiplicity) (now p2s) np
-        × Shaped np ns (record {
-          form = form;
-          p2s = now p2s;
-          s2p = now s2p;
-          shortest = now shortest;
-          nonzero = now nonzero;
-          constants = now constants;
-        }) ⌝ }
+        × Shaped np ns (forcesOf form (now p2s) (now s2p) (now shortest) (now nonzero) (now constants)) ⌝ }
     requires { ⌜ ((x : ℕ) → x < 3
         → numbersIn (now w) (factorsAt np ns x) (np * ns) (np * ns)
         ≡ phaseFactors np ns (now vectors) (now multiplicity) (leg (record { leg0 = now q0; leg1 = now q1; leg2 = now q2 }) x)) ⌝ }
     ensures { λ _. ⌜ (constantsIn (now (w .exit)) (constantsAt np ns) np
         ≡ reciprocalOf np ns anchoring
-        (record {
-          form = form;
-          p2s = now (p2s .entry);
-          s2p = now (s2p .entry);
-          shortest = now (shortest .entry);
-          nonzero = now (nonzero .entry);
-          constants = now (constants .entry);
-        }) (now (vectors .entry)) (now (multiplicity .entry))
+        (forcesOf form (now (p2s .entry)) (now (s2p .entry)) (now (shortest .entry)) (now (nonzero .entry)) (now (constants .entry)))
+        (now (vectors .entry)) (now (multiplicity .entry))
         (picked (record { leg0 = now (q0 .entry); leg1 = now (q1 .entry); leg2 = now (q2 .entry) }) x0 x1 x2))
         × Kept (now (w .entry)) (now (w .exit)) (preAt np ns) (scratchAt np ns) ⌝ }
 {

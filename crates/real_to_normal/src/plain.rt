@@ -11,6 +11,7 @@ ghost use Prim.Native.Nat.{ℕ, _+_, _-_, _*_, _<_, _≤_};
 ghost use lib.IntN.{pos};
 ghost use lib.ListN.{length};
 ghost use Rattle.phonon.specs.Number.{at, flagged, table};
+ghost use Rattle.phonon.specs.Sets.{forcesOf};
 ghost use Rattle.phonon.specs.Tests.{allWithin};
 ghost use Rattle.phonon.specs.Interaction.{leg};
 ghost use Rattle.phonon.specs.RealToReciprocal.{phaseFactors};
@@ -51,14 +52,7 @@ pub fn real_to_normal(
         × (ns ≤ 256)
         × (endAt np ns ≤ length (now w))
         × Anchored (now vectors) (now multiplicity) (now p2s) np
-        × Shaped np ns (record {
-          form = form;
-          p2s = now p2s;
-          s2p = now s2p;
-          shortest = now shortest;
-          nonzero = now nonzero;
-          constants = now constants;
-        }) ⌝ }
+        × Shaped np ns (forcesOf form (now p2s) (now s2p) (now shortest) (now nonzero) (now constants)) ⌝ }
     requires { ⌜ ((x : ℕ) → x < 3
         → numbersIn (now w) (factorsAt np ns x) (np * ns) (np * ns)
         ≡ phaseFactors np ns (now vectors) (now multiplicity) (leg (record { leg0 = now q0; leg1 = now q1; leg2 = now q2 }) x)) ⌝ }
@@ -72,14 +66,8 @@ pub fn real_to_normal(
         (λ m. cond (flagged (now (flags .entry)) m) (at (now (out .entry)) m)
         (strength np
         (reciprocalOf np ns anchoring
-        (record {
-          form = form;
-          p2s = now (p2s .entry);
-          s2p = now (s2p .entry);
-          shortest = now (shortest .entry);
-          nonzero = now (nonzero .entry);
-          constants = now (constants .entry);
-        }) (now (vectors .entry)) (now (multiplicity .entry))
+        (forcesOf form (now (p2s .entry)) (now (s2p .entry)) (now (shortest .entry)) (now (nonzero .entry)) (now (constants .entry)))
+        (now (vectors .entry)) (now (multiplicity .entry))
         (picked (record { leg0 = now (q0 .entry); leg1 = now (q1 .entry); leg2 = now (q2 .entry) }) 0 1 2))
         (slotIn (now (w .entry)) np (now (frequencies .entry)) (record { leg0 = g0; leg1 = g1; leg2 = g2 })
         (now (bands .entry)) 0 1 2 m) cutoff)))

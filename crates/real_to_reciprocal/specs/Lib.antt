@@ -1,3 +1,4 @@
+-- The words of the contracts: shapes of the tables, copies of an atom, one pair, what is stored of the region.
 pub mod Shape
 pub mod Copies
 pub mod Pair

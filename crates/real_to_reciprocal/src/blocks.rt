@@ -13,6 +13,7 @@ ghost use Prim.Native.Nat.{_+_, _*_, _/_, _%_, _<_, _≤_};
 ghost use lib.ListN.{length};
 ghost use Rattle.phonon.specs.declared.Leg.the-variants.{Alone};
 ghost use Rattle.phonon.specs.Common.{czero, cadd, cmul};
+ghost use Rattle.phonon.specs.Sets.{forcesOf};
 ghost use Rattle.phonon.specs.RealToReciprocal as Def;
 ghost use Rattle.planes.specs.Split.{split, WroteSplit, Cols};
 ghost use Rattle.real_to_reciprocal.specs.Shape.{Shaped};
@@ -142,14 +143,7 @@ fn leg_block(
     j: usize,
     k: usize,
 )
-    requires { ⌜ Shaped np ns (record {
-      form = form;
-      p2s = now p2s;
-      s2p = now s2p;
-      shortest = now shortest;
-      nonzero = now nonzero;
-      constants = now constants;
-    })
+    requires { ⌜ Shaped np ns (forcesOf form (now p2s) (now s2p) (now shortest) (now nonzero) (now constants))
         × FirstCopies np ns (now p2s) (now s2p) (now first)
         × LaterCopies ns (now s2p) (now later)
         × (po + 2 * np ≤ length (now w))
@@ -161,14 +155,8 @@ fn leg_block(
     ensures { λ _. ⌜ Cols (now (t .exit)) 27
         (λ e. cmul
         (Def.element ns
-        (record {
-          form = form;
-          p2s = now (p2s .entry);
-          s2p = now (s2p .entry);
-          shortest = now (shortest .entry);
-          nonzero = now (nonzero .entry);
-          constants = now (constants .entry);
-        }) leg (split (now (w .entry)) f1 (np * ns)) (split (now (w .entry)) f2 (np * ns)) i j k e)
+        (forcesOf form (now (p2s .entry)) (now (s2p .entry)) (now (shortest .entry)) (now (nonzero .entry)) (now (constants .entry)))
+        leg (split (now (w .entry)) f1 (np * ns)) (split (now (w .entry)) f2 (np * ns)) i j k e)
         (split (now (w .entry)) po np i)) ⌝ }
 {
     *t = real_to_reciprocal_elements(
@@ -194,7 +182,7 @@ fn leg_block(
 }
 
 // Writes the block of atoms i, j and k to t, anchored at the first: the sums times its pre-factor.
-pub fn legacy_block(
+fn legacy_block(
     t: &mut [f64; 54],
     w: &[f64],
     po: usize,
@@ -214,14 +202,7 @@ pub fn legacy_block(
     j: usize,
     k: usize,
 )
-    requires { ⌜ Shaped np ns (record {
-      form = form;
-      p2s = now p2s;
-      s2p = now s2p;
-      shortest = now shortest;
-      nonzero = now nonzero;
-      constants = now constants;
-    })
+    requires { ⌜ Shaped np ns (forcesOf form (now p2s) (now s2p) (now shortest) (now nonzero) (now constants))
         × FirstCopies np ns (now p2s) (now s2p) (now first)
         × LaterCopies ns (now s2p) (now later)
         × (po + 2 * np ≤ length (now w))
@@ -233,14 +214,8 @@ pub fn legacy_block(
     ensures { λ _. ⌜ Cols (now (t .exit)) 27
         (λ e. cmul
         (Def.element ns
-        (record {
-          form = form;
-          p2s = now (p2s .entry);
-          s2p = now (s2p .entry);
-          shortest = now (shortest .entry);
-          nonzero = now (nonzero .entry);
-          constants = now (constants .entry);
-        }) Alone (split (now (w .entry)) f1 (np * ns)) (split (now (w .entry)) f2 (np * ns)) i j k e)
+        (forcesOf form (now (p2s .entry)) (now (s2p .entry)) (now (shortest .entry)) (now (nonzero .entry)) (now (constants .entry)))
+        Alone (split (now (w .entry)) f1 (np * ns)) (split (now (w .entry)) f2 (np * ns)) i j k e)
         (split (now (w .entry)) po np i)) ⌝ }
 {
     leg_block(
@@ -267,7 +242,7 @@ pub fn legacy_block(
 }
 
 // Writes the block of atoms i, j and k to t, anchored at each in turn and averaged.
-pub fn r0_average_block(
+fn r0_average_block(
     t: &mut [f64; 54],
     w: &[f64],
     po: usize,
@@ -288,14 +263,7 @@ pub fn r0_average_block(
     j: usize,
     k: usize,
 )
-    requires { ⌜ Shaped np ns (record {
-      form = form;
-      p2s = now p2s;
-      s2p = now s2p;
-      shortest = now shortest;
-      nonzero = now nonzero;
-      constants = now constants;
-    })
+    requires { ⌜ Shaped np ns (forcesOf form (now p2s) (now s2p) (now shortest) (now nonzero) (now constants))
         × FirstCopies np ns (now p2s) (now s2p) (now first)
         × LaterCopies ns (now s2p) (now later)
         × (po + 2 * np ≤ length (now w))
@@ -307,14 +275,8 @@ pub fn r0_average_block(
         × (k < np) ⌝ }
     ensures { λ _. ⌜ Cols (now (t .exit)) 27
         (λ e. Def.averagedElement ns
-        (record {
-          form = form;
-          p2s = now (p2s .entry);
-          s2p = now (s2p .entry);
-          shortest = now (shortest .entry);
-          nonzero = now (nonzero .entry);
-          constants = now (constants .entry);
-        }) (factorsIn (now (w .entry)) po f0 f1 f2 np ns) i j k (e / 9) (e % 9 / 3) (e % 3)) ⌝ }
+        (forcesOf form (now (p2s .entry)) (now (s2p .entry)) (now (shortest .entry)) (now (nonzero .entry)) (now (constants .entry)))
+        (factorsIn (now (w .entry)) po f0 f1 f2 np ns) i j k (e / 9) (e % 9 / 3) (e % 3)) ⌝ }
 {
     let mut second: [f64; 54] = [0.0; 54];
     let mut third: [f64; 54] = [0.0; 54];
@@ -407,14 +369,7 @@ pub fn block(
     j: usize,
     k: usize,
 )
-    requires { ⌜ Shaped np ns (record {
-      form = form;
-      p2s = now p2s;
-      s2p = now s2p;
-      shortest = now shortest;
-      nonzero = now nonzero;
-      constants = now constants;
-    })
+    requires { ⌜ Shaped np ns (forcesOf form (now p2s) (now s2p) (now shortest) (now nonzero) (now constants))
         × FirstCopies np ns (now p2s) (now s2p) (now first)
         × LaterCopies ns (now s2p) (now later)
         × (po + 2 * np ≤ length (now w))
@@ -426,14 +381,8 @@ pub fn block(
         × (k < np) ⌝ }
     ensures { λ _. ⌜ Cols (now (t .exit)) 27
         (λ e. Def.anchored ns
-        (record {
-          form = form;
-          p2s = now (p2s .entry);
-          s2p = now (s2p .entry);
-          shortest = now (shortest .entry);
-          nonzero = now (nonzero .entry);
-          constants = now (constants .entry);
-        }) (factorsIn (now (w .entry)) po f0 f1 f2 np ns) i j k (e / 9) (e % 9 / 3) (e % 3) anchoring) ⌝ }
+        (forcesOf form (now (p2s .entry)) (now (s2p .entry)) (now (shortest .entry)) (now (nonzero .entry)) (now (constants .entry)))
+        (factorsIn (now (w .entry)) po f0 f1 f2 np ns) i j k (e / 9) (e % 9 / 3) (e % 3) anchoring) ⌝ }
 {
     match anchoring {
         Anchoring::Plain => legacy_block(

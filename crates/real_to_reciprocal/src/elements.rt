@@ -13,6 +13,7 @@ ghost use Prim.Native.Nat.{_+_, _*_, _<_, _≤_};
 ghost use lib.ListN.{length};
 ghost use Rattle.phonon.specs.Number.{at, flagged};
 ghost use Rattle.phonon.specs.Common.{cadd, scale};
+ghost use Rattle.phonon.specs.Sets.{forcesOf};
 ghost use Rattle.phonon.specs.RealToReciprocal as Def;
 ghost use Rattle.planes.specs.Split.{split, WroteSplit, Cols};
 ghost use Rattle.real_to_reciprocal.specs.Shape.{Shaped};
@@ -180,14 +181,7 @@ pub fn real_to_reciprocal_elements(
     a: usize,
     b: usize,
 ) -> [f64; 54]
-    requires { ⌜ Shaped np ns (record {
-      form = form;
-      p2s = now p2s;
-      s2p = now s2p;
-      shortest = now shortest;
-      nonzero = now nonzero;
-      constants = now constants;
-    })
+    requires { ⌜ Shaped np ns (forcesOf form (now p2s) (now s2p) (now shortest) (now nonzero) (now constants))
         × FirstCopies np ns (now p2s) (now s2p) (now first)
         × LaterCopies ns (now s2p) (now later)
         × (f1 + 2 * (np * ns) ≤ length (now w))
@@ -197,14 +191,8 @@ pub fn real_to_reciprocal_elements(
         × (b < np) ⌝ }
     ensures { λ r. ⌜ Cols r 27
         (Def.element ns
-        (record {
-          form = form;
-          p2s = now (p2s .entry);
-          s2p = now (s2p .entry);
-          shortest = now (shortest .entry);
-          nonzero = now (nonzero .entry);
-          constants = now (constants .entry);
-        }) leg (split (now (w .entry)) f1 (np * ns)) (split (now (w .entry)) f2 (np * ns)) i a b) ⌝ }
+        (forcesOf form (now (p2s .entry)) (now (s2p .entry)) (now (shortest .entry)) (now (nonzero .entry)) (now (constants .entry)))
+        leg (split (now (w .entry)) f1 (np * ns)) (split (now (w .entry)) f2 (np * ns)) i a b) ⌝ }
 {
     let row = row_of(form, p2s, i);
     let d = np * ns;

@@ -12,6 +12,7 @@ use phonon::Form;
 ghost use mathlib.Core.Path.{_≡_};
 ghost use Prim.Native.Nat.{_+_, _*_, _≤_};
 ghost use lib.ListN.{length};
+ghost use Rattle.phonon.specs.Sets.{forcesOf};
 ghost use Rattle.phonon.specs.RealToReciprocal.{reciprocalFrom};
 ghost use Rattle.planes.specs.Region.{Kept};
 ghost use Rattle.planes.specs.Layout.{constantsIn, numbersIn};
@@ -39,28 +40,15 @@ pub fn real_to_reciprocal(
 )
     requires { ⌜ (np ≤ 256)
         × (ns ≤ 256)
-        × Shaped np ns (record {
-          form = form;
-          p2s = now p2s;
-          s2p = now s2p;
-          shortest = now shortest;
-          nonzero = now nonzero;
-          constants = now constants;
-        })
+        × Shaped np ns (forcesOf form (now p2s) (now s2p) (now shortest) (now nonzero) (now constants))
         × (po + 2 * np ≤ fo)
         × (f0 + 2 * (np * ns) ≤ fo)
         × (f1 + 2 * (np * ns) ≤ fo)
         × (f2 + 2 * (np * ns) ≤ fo)
         × (regionEnd fo np ≤ length (now w)) ⌝ }
     ensures { λ _. ⌜ (constantsIn (now (w .exit)) fo np ≡ reciprocalFrom np ns anchoring
-        (record {
-          form = form;
-          p2s = now (p2s .entry);
-          s2p = now (s2p .entry);
-          shortest = now (shortest .entry);
-          nonzero = now (nonzero .entry);
-          constants = now (constants .entry);
-        }) (numbersIn (now (w .entry)) po np np)
+        (forcesOf form (now (p2s .entry)) (now (s2p .entry)) (now (shortest .entry)) (now (nonzero .entry)) (now (constants .entry)))
+        (numbersIn (now (w .entry)) po np np)
         (record {
           leg0 = numbersIn (now (w .entry)) f0 (np * ns) (np * ns);
           leg1 = numbersIn (now (w .entry)) f1 (np * ns) (np * ns);

@@ -84,7 +84,7 @@ fn factor_of(t: Turn) -> Complex
 }
 
 // The mean of the phase factors of `count` vectors, from vector `start` on.
-pub fn get_phase_factor(q: &[f64; 3], vectors: &[f64], count: usize, start: usize) -> Complex
+fn get_phase_factor(q: &[f64; 3], vectors: &[f64], count: usize, start: usize) -> Complex
     requires { ⌜ 3 * (start + count) ≤ length (now vectors) ⌝ }
     ensures { λ r. ⌜ r ≡ Def.phaseFactor (now (q .entry)) (now (vectors .entry)) (pos count) (pos start) ⌝ }
 {
@@ -154,7 +154,7 @@ pub fn pre_phase(vectors: &[f64], q0: &[f64; 3], q1: &[f64; 3], q2: &[f64; 3], v
 }
 
 // The pre-factor of atom i: that of the first vector of entry p2s[i] * np of the multiplicities.
-pub fn get_pre_phase_factor(
+fn get_pre_phase_factor(
     i: usize,
     q0: &[f64; 3],
     q1: &[f64; 3],
