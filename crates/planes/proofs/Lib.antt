@@ -1,3 +1,4 @@
+-- The laws of what stands where in a slice: how a loop extends it, and that it is the definitions' lists. Products of counts, float laws, leg orders.
 pub mod SplitLaws
 pub mod FloatLaws
 pub mod RegionLaws
@@ -6,3 +7,5 @@ pub mod Products
 pub mod ColsLaws
 pub mod SignedRead
 pub mod WorkLaws
+pub mod LegOrders
+pub mod ClearLaws

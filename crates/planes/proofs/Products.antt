@@ -1,13 +1,13 @@
 -- Products of counts: places in rows of n numbers.
 use mathlib.Core.Path.{_≡_, sym, ap, _∙_}
 use mathlib.Core.List.{List}
-use lib.ListN.{length, length-take, length-drop}
+use lib.ListN.{length}
 use Prim.Native.Nat.{ℕ, _+_, _*_, _/_, _%_, _<_, _≤_}
-use native.Mathlib.Nat.{suc-mul, mul-one, mul-le-mul-left, mul-le-mul-right}
+use native.Mathlib.Nat.{suc-mul, mul-le-mul-right}
 use native.Mathlib.Numerals.{add-one}
 use native.Mathlib.Omega.{arith}
 use Rattle.phonon.specs.Sets.{part}
-use Rattle.phonon.proofs.Laws.{div-of, mod-of}
+use Rattle.phonon.proofs.Laws.{div-of, mod-of, part-size}
 
 -- row i ends within m rows
 pub row-le : {i m : ℕ} (n : ℕ) → i < m → i * n + n ≤ m * n
@@ -16,10 +16,6 @@ row-le n p = omega (arith, mul-le-mul-right n p)
 -- one row more
 pub row-next : (i n : ℕ) → i * n + n ≡ (i + 1) * n
 row-next i n = sym (ap (λ (m : ℕ). m * n) (add-one i) ∙ suc-mul i n)
-
--- a number is at most its product with another that is not 0
-pub le-times : (x : ℕ) {n : ℕ} → 1 ≤ n → x ≤ x * n
-le-times x {n} h = omega (arith, mul-le-mul-left x h, mul-one x)
 
 -- the row and the place in it, of a number's place
 pub row-same : (n i j : ℕ) {a b : ℕ} → a < n → b < n → i * n + a ≡ j * n + b → i ≡ j
@@ -30,4 +26,4 @@ place-same n i j p q e = sym (mod-of n p i) ∙ ap (λ (x : ℕ). x % n) e ∙ m
 
 -- row g of a slice has n numbers
 pub part-length : {A : Type 0} (n g : ℕ) (l : List A) → g * n + n ≤ length l → length (part n g l) ≡ n
-part-length n g l h = simp (length-take, length-drop) (omega arith)
+part-length n g l h = part-size l (g * n) n h

@@ -1,13 +1,12 @@
 -- Laws of regions: how a loop that writes one extends what it has written, and what is left as it was.
-use mathlib.Core.Path.{_≡_, refl, sym, ap, _∙_, subst}
-use mathlib.Core.Logic.{⊎-elim}
+use mathlib.Core.Path.{_≡_, refl, ap, _∙_}
 use mathlib.Core.List.{List}
 use Prim.Native.Nat.{ℕ, _+_, _-_, _<_, _≤_}
-use native.Mathlib.Nat.{eq-or-lt-of-le}
 use native.Mathlib.Decide.{decLt}
 use native.Mathlib.Omega.{arith}
 use lib.ListN.{length, set, length-set}
 use lib.Seq.{getD-set-same, getD-set-other}
+use borrow.Author.Count.{below-more}
 use lib.Ieee.{Float, nan}
 use Rattle.phonon.specs.declared.Complex.{Complex}
 use Rattle.phonon.specs.Number.{at}
@@ -25,10 +24,9 @@ pub wrote-step : {l l₁ : List Float} {off n : ℕ} {f : ℕ → Float} (x : Fl
 wrote-step {l} {l₁} {off} {n} {f} x w room ex =
     record {
       size = length-set l₁ (off + n) x ∙ w .size;
-      inside = λ k p. ⊎-elim
-          (λ (e : k ≡ n). subst (λ (j : ℕ). at (set l₁ (off + n) x) (off + j) ≡ f j) (sym e) (getD-set-same l₁ (off + n) x nan (omega (arith, w .size)) ∙ ex))
-          (λ (b : k < n). getD-set-other l₁ (off + n) (off + k) x nan (λ (e : off + k ≡ off + n). omega arith) ∙ w .inside k b)
-          (eq-or-lt-of-le {n = k} {m = n} (omega arith));
+      inside = below-more (λ k. at (set l₁ (off + n) x) (off + k) ≡ f k) n
+          (λ k b. getD-set-other l₁ (off + n) (off + k) x nan (λ (e : off + k ≡ off + n). omega arith) ∙ w .inside k b)
+          (getD-set-same l₁ (off + n) x nan (omega (arith, w .size)) ∙ ex);
       before = λ j p. getD-set-other l₁ (off + n) j x nan (λ (e : j ≡ off + n). omega arith) ∙ w .before j p;
       after = λ j p. getD-set-other l₁ (off + n) j x nan (λ (e : j ≡ off + n). omega arith) ∙ w .after j (omega arith);
     }

@@ -1,12 +1,12 @@
 -- Laws of arrays in two planes: how a loop that writes one extends what it has written.
 use mathlib.Core.Path.{_≡_, refl, sym, ap, _∙_, subst}
-use mathlib.Core.Logic.{_≢_, ⊎-elim}
+use mathlib.Core.Logic.{_≢_}
 use mathlib.Core.List.{List}
 use Prim.Native.Nat.{ℕ, _+_, _<_, _≤_}
-use native.Mathlib.Nat.{eq-or-lt-of-le}
 use native.Mathlib.Omega.{arith}
 use lib.ListN.{length, set, length-set}
 use lib.Seq.{getD-set-same, getD-set-other}
+use borrow.Author.Count.{below-more}
 use lib.Ieee.{Float, nan}
 use Rattle.phonon.specs.declared.Complex.{Complex}
 use Rattle.phonon.specs.Number.{at}
@@ -40,13 +40,12 @@ split-step {l} {l₁} {l₂} {off} {d} {n} {f} z w h room el ez =
     subst (λ (m : List Float). WroteSplit l m off d (n + 1) f) (sym el)
     (record {
       size = simp length-set (w .size);
-      inside = λ k p. ⊎-elim
-          (λ (e : k ≡ n). subst (λ (j : ℕ). split (putSplit l₁ off d n z) off d j ≡ f j) (sym e) (put-same l₁ off d n z h room₁ ∙ ez))
-          (λ (b : k < n). complex-eq
+      inside = below-more (λ k. split (putSplit l₁ off d n z) off d k ≡ f k) n
+          (λ k b. complex-eq
           (put-other l₁ off d n z h room₁ (off + k) (λ (e : off + k ≡ off + n). omega arith) (λ (e : off + k ≡ off + d + n). omega arith))
           (put-other l₁ off d n z h room₁ (off + d + k) (λ (e : off + d + k ≡ off + n). omega arith) (λ (e : off + d + k ≡ off + d + n). omega arith))
           ∙ w .inside k b)
-          (eq-or-lt-of-le {n = k} {m = n} (omega arith));
+          (put-same l₁ off d n z h room₁ ∙ ez);
       before = λ j p. put-other l₁ off d n z h room₁ j (λ (e : j ≡ off + n). omega arith) (λ (e : j ≡ off + d + n). omega arith) ∙ w .before j p;
       between = λ j p q. put-other l₁ off d n z h room₁ j (λ (e : j ≡ off + n). omega arith) (λ (e : j ≡ off + d + n). omega arith) ∙ w .between j (omega arith) q;
       after = λ j p. put-other l₁ off d n z h room₁ j (λ (e : j ≡ off + n). omega arith) (λ (e : j ≡ off + d + n). omega arith) ∙ w .after j (omega arith);

@@ -5,12 +5,12 @@ use Prim.Native.Nat.{ℕ, _+_, _-_, _*_, _<_, _≤_}
 use native.Mathlib.Nat.{mul-le-mul-right}
 use native.Mathlib.Omega.{arith}
 use lib.ListN.{length, take, drop, length-drop}
-use lib.Seq.{ext-getD, getD-take, getD-drop, length-take-le}
+use lib.Seq.{ext-getD, getD-drop}
 use lib.Ieee.{Float, nan}
 use Rattle.phonon.specs.declared.Complex.{Complex}
-use Rattle.phonon.specs.Number.{at, table}
+use Rattle.phonon.specs.Number.{table}
 use Rattle.phonon.specs.Common.{ctable}
-use Rattle.phonon.proofs.Laws.{table-at, table-length, ctable-ext}
+use Rattle.phonon.proofs.Laws.{table-at, table-length, ctable-ext, part-at, part-size}
 use Rattle.planes.specs.Split.{WroteSplit}
 use Rattle.planes.specs.Region.{Wrote, Kept}
 use Rattle.planes.specs.Layout.{numbersIn, columnIn}
@@ -27,19 +27,13 @@ pub numbers-below : {l l′ : List Float} {a b : ℕ} → Kept l l′ a b → (o
 unfolding numbersIn
 numbers-below w off d n h = ctable-ext n _ _ (λ k q. split-kept w off d k (omega arith))
 
-reals-at : (l : List Float) (off n k : ℕ) → k < n → at (take n (drop off l)) k ≡ at l (off + k)
-reals-at l off n k h = getD-take n (drop off l) k nan h ∙ getD-drop off l k nan
-
-reals-length : (l : List Float) (off n : ℕ) → off + n ≤ length l → length (take n (drop off l)) ≡ n
-reals-length l off n h = length-take-le n (drop off l) (omega (arith, length-drop off l))
-
 pub reals-below : {l l′ : List Float} {a b : ℕ} → Kept l l′ a b → (off n : ℕ) → off + n ≤ a → off + n ≤ length l → take n (drop off l′) ≡ take n (drop off l)
 reals-below {l} {l′} w off n h room =
-    let s = reals-length l off n room in
-    let s′ = reals-length l′ off n (omega (arith, w .size)) in
+    let s = part-size l off n room in
+    let s′ = part-size l′ off n (omega (arith, w .size)) in
     ext-getD nan (take n (drop off l′)) (take n (drop off l)) (s′ ∙ sym s) (λ k p.
     let q : k < n = omega arith in
-    reals-at l′ off n k q ∙ w .before (off + k) (omega arith) ∙ sym (reals-at l off n k q))
+    part-at l′ off n k nan q ∙ w .before (off + k) (omega arith) ∙ sym (part-at l off n k nan q))
 
 -- ---- what was written
 
@@ -49,10 +43,10 @@ numbers-wrote {n = n} w = ctable-ext n _ _ (λ k p. w .inside k p)
 
 pub reals-wrote : {l l′ : List Float} {off n : ℕ} {f : ℕ → Float} → Wrote l l′ off n f → off + n ≤ length l → take n (drop off l′) ≡ table n f
 reals-wrote {l} {l′} {off} {n} {f} w room =
-    let s = reals-length l′ off n (omega (arith, w .size)) in
+    let s = part-size l′ off n (omega (arith, w .size)) in
     ext-getD nan (take n (drop off l′)) (table n f) (s ∙ sym (table-length n f)) (λ k p.
     let q : k < n = omega arith in
-    reals-at l′ off n k q ∙ w .inside k q ∙ sym (table-at n k f nan q))
+    part-at l′ off n k nan q ∙ w .inside k q ∙ sym (table-at n k f nan q))
 
 pub kept-wrote : {l l′ : List Float} {off n : ℕ} {f : ℕ → Float} (a b : ℕ) → a ≤ off → off + n ≤ b → Wrote l l′ off n f → Kept l l′ a b
 kept-wrote a b p q w = record { size = w .size; before = λ j h. w .before j (omega arith); after = λ j h. w .after j (omega arith) }

@@ -1,10 +1,10 @@
-// What stands where in a slice.
+// What stands where in a slice. Besides, what kernels and tests share: indices, parts, W and the orders of the legs.
 use phonon::Complex;
 ghost use mathlib.Core.Path.{_≡_};
-ghost use mathlib.Core.List.{[]};
+ghost use mathlib.Core.List.{[], _++_};
 ghost use Prim.Native.Nat.{_+_, _*_, _<_, _≤_};
-ghost use lib.ListN.{length, getD};
-ghost use Rattle.phonon.specs.Number.{index, int};
+ghost use lib.ListN.{length, getD, drop, replicate};
+ghost use Rattle.phonon.specs.Number.{f0, index, int};
 ghost use Rattle.phonon.specs.Sets.{part};
 ghost use Rattle.phonon.specs.Limits.{workLength};
 ghost use Rattle.phonon.specs.Interaction.{orders};
@@ -28,6 +28,18 @@ pub fn put_split(w: &mut [f64], off: usize, d: usize, k: usize, z: Complex)
 {
     w[off + k] = z.re;
     w[off + d + k] = z.im;
+}
+
+// ---- numbers cleared
+
+// The first n numbers 0.0.
+pub fn clear(w: &mut [f64], n: usize)
+    requires { ⌜ n ≤ length (now w) ⌝ }
+    ensures { λ _. ⌜ now (w .exit) ≡ replicate n f0 ++ drop n (now (w .entry)) ⌝ }
+{
+    for i in 0..n {
+        w[i] = 0.0;
+    }
 }
 
 // ---- indices and parts

@@ -1,3 +1,4 @@
+-- The laws behind one triplet: places in the work buffer, legs, orders, slots, an accepted set.
 pub mod PlaceLaws
 pub mod LegLaws
 pub mod OrderLaws

@@ -15,19 +15,9 @@ use Rattle.phonon.specs.Interaction.{orders, leg, exchanged}
 use Rattle.phonon.specs.ReciprocalToNormal.{strength}
 use Rattle.phonon.proofs.Laws.{fold-step, table-ext, table-at}
 use Rattle.planes.specs.Region.{Kept}
+use Rattle.planes.proofs.LegOrders.{orders-lt}
 use Rattle.real_to_normal.specs.Work.{preAt, endAt, picked, reciprocalOf, legIn, bandsOfSlot, slotIn, sixthOf}
 use Rattle.real_to_normal.proofs.SlotLaws.{slot-bands, leg-is}
-
--- each order is of three legs
-pub orders-lt : (o : ℕ) → o < 6 → (getD (getD orders o []) 0 0 < 3) × (getD (getD orders o []) 1 0 < 3) × (getD (getD orders o []) 2 0 < 3)
-unfolding orders
-orders-lt zero h = (omega arith, omega arith, omega arith)
-orders-lt (suc zero) h = (omega arith, omega arith, omega arith)
-orders-lt (suc (suc zero)) h = (omega arith, omega arith, omega arith)
-orders-lt (suc (suc (suc zero))) h = (omega arith, omega arith, omega arith)
-orders-lt (suc (suc (suc (suc zero)))) h = (omega arith, omega arith, omega arith)
-orders-lt (suc (suc (suc (suc (suc zero))))) h = (omega arith, omega arith, omega arith)
-orders-lt (suc (suc (suc (suc (suc (suc o)))))) h = absurd (omega arith)
 
 -- leg x of the slot's phonons
 leg-of : (l : List Float) (P : ℕ) (frequencies : List Float) (g : Legs ℕ) (bands : List ℤ) (m x : ℕ) → x < 3
@@ -57,9 +47,9 @@ module _ (P S : ℕ) (a : Anchoring) (c : Forces) (vectors : List Float) (multip
   unfolding sixthOf exchanged
   six-turn o {l₁} {out} {out′} {order} h k eo e r =
       r ∙ table-ext N _ _ (λ m n.
-      let i0 = orders-lt o h .0 in
-      let i1 = orders-lt o h .1 in
-      let i2 = orders-lt o h .2 in
+      let i0 = orders-lt o 0 h (omega arith) in
+      let i1 = orders-lt o 1 h (omega arith) in
+      let i2 = orders-lt o 2 h (omega arith) in
       let b = slot-bands P bands m p w n in
       let u = leg-is P S frequencies g k (omega arith) (getD (getD orders o []) 0 0) _ _ _ i0 (b (getD (getD orders o []) 0 0)) refl refl ∙ leg-of l P frequencies g bands m (getD (getD orders o []) 0 0) i0 in
       let v = leg-is P S frequencies g k (omega arith) (getD (getD orders o []) 1 0) _ _ _ i1 (b (getD (getD orders o []) 1 0)) refl refl ∙ leg-of l P frequencies g bands m (getD (getD orders o []) 1 0) i1 in

@@ -1,14 +1,11 @@
 -- The slots as the work leaves them are the definition's strengths, and the work buffer is the definition's.
 use mathlib.Core.Path.{_≡_, refl, sym, ap, ap₂, _∙_}
 use mathlib.Core.Bool.{Bool, true, false, cond}
-use mathlib.Core.List.{List, [], _∷_, _++_}
-use Prim.Native.Nat.{ℕ, zero, suc, _+_, _-_, _*_, _/_, _%_, _<_, _≤_}
-use native.Mathlib.Nat.{le-of-suc-le-suc}
-use native.Mathlib.Numerals.{add-one}
+use mathlib.Core.List.{List, [], _++_}
+use Prim.Native.Nat.{ℕ, _+_, _-_, _*_, _/_, _%_, _<_, _≤_}
 use native.Mathlib.Omega.{arith}
 use lib.IntN.{ℤ, pos}
-use lib.ListN.{length, getD, take, drop, set, replicate}
-use lib.Seq.{getD-take, getD-drop}
+use lib.ListN.{length, getD, take, drop, replicate}
 use lib.Ieee.{Float, nan}
 use Rattle.phonon.specs.declared.Anchoring.{Anchoring}
 use Rattle.phonon.specs.declared.Measures.{Measures}
@@ -22,7 +19,7 @@ use Rattle.phonon.specs.ReciprocalToNormal.{inverseRoots, Phonon, phononAt, str
 use Rattle.phonon.specs.Interaction.{orders, leg, exchanged, legQ, point, orderCount, reciprocals, sixth, value, flaggedValue, phononsAt, strengthWith, slotWith, strengthsWith, strengths}
 use Rattle.phonon.specs.Limits.{workLength}
 use Rattle.phonon.specs.Doors.{cleared}
-use Rattle.phonon.proofs.Laws.{fold-ext, table-ext, table-at}
+use Rattle.phonon.proofs.Laws.{fold-ext, table-ext, table-at, part-at}
 use Rattle.planes.specs.Region.{Kept}
 use Rattle.planes.proofs.WorkLaws.{drop-kept}
 use Rattle.reciprocal_to_normal.specs.Slots.{bOf, jOf, kOf}
@@ -30,16 +27,6 @@ use Rattle.reciprocal_to_normal.proofs.SlotLaws.{slot-of}
 use Rattle.real_to_normal.proofs.AcceptedLaws.{end-fits}
 use Rattle.real_to_normal.specs.Work.{endAt, Prepared, picked, reciprocalOf, legIn, slotIn, sixthOf, slotPhonons, slotValue}
 use Rattle.real_to_normal.proofs.SlotLaws.{slot-bands}
-
--- ---- numbers that are cleared one by one
-
-clear-suc : (n : ℕ) (v : Float) (d : List Float) → n < length d → set (replicate n v ++ drop n d) n v ≡ replicate (suc n) v ++ drop (suc n) d
-clear-suc n v [] l = absurd (omega arith)
-clear-suc zero v (x ∷ d) l = refl
-clear-suc (suc n) v (x ∷ d) l = ap (λ (t : List Float). v ∷ t) (clear-suc n v d (le-of-suc-le-suc l))
-
-pub clear-more : (n : ℕ) (d : List Float) → n < length d → set (replicate n f0 ++ drop n d) n f0 ≡ replicate (n + 1) f0 ++ drop (n + 1) d
-clear-more n d l = rw add-one (clear-suc n f0 d l)
 
 -- ---- what the legs that were prepared hold are the definition's phonons
 
@@ -49,7 +36,7 @@ module _ (P S : ℕ) (masses eig vectors frequencies : List Float) (multiplicity
   unfolding phononAt
   leg-phonon x n p k =
       let f : at (take (3 * P) (drop (leg g x * (3 * P)) frequencies)) n ≡ at frequencies (leg g x * (3 * P) + n) =
-      getD-take (3 * P) (drop (leg g x * (3 * P)) frequencies) n nan k ∙ getD-drop (leg g x * (3 * P)) frequencies n nan in
+      part-at frequencies (leg g x * (3 * P)) (3 * P) n nan k in
       λ i. record { frequency = f i; column = h .columns x n p k i }
 
   pub slot-phonons : (bands : List ℤ) (m : ℕ) → 1 ≤ P → allWithin (pos 0) (pos (3 * P - 1)) bands ≡ true → m < length bands * (3 * P) * (3 * P)

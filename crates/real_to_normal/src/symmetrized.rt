@@ -3,9 +3,9 @@ use crate::order::leg_at;
 use crate::order::order_constants;
 use phonon::Anchoring;
 use phonon::Form;
+use planes::clear;
 use planes::leg_frequencies;
 use planes::order_at;
-use reciprocal_to_normal::gather::clear;
 use reciprocal_to_normal::gather::gather_sixth;
 use reciprocal_to_normal::listing::full_strengths;
 ghost use mathlib.Core.Path.{_≡_};
@@ -14,7 +14,7 @@ ghost use Prim.Native.Nat.{ℕ, _+_, _-_, _*_, _<_, _≤_};
 ghost use lib.IntN.{pos};
 ghost use lib.ListN.{length, getD};
 ghost use Rattle.phonon.specs.Number.{_⊕_, _⊘_, f0, f6, at, flagged, fold, table};
-ghost use Rattle.phonon.specs.Sets.{part};
+ghost use Rattle.phonon.specs.Sets.{forcesOf, part};
 ghost use Rattle.phonon.specs.Tests.{allWithin};
 ghost use Rattle.phonon.specs.Interaction.{leg};
 ghost use Rattle.phonon.specs.RealToReciprocal.{phaseFactors};
@@ -87,14 +87,7 @@ fn add_order(
         × (ns ≤ 256)
         × (endAt np ns ≤ length (now w))
         × Anchored (now vectors) (now multiplicity) (now p2s) np
-        × Shaped np ns (record {
-          form = form;
-          p2s = now p2s;
-          s2p = now s2p;
-          shortest = now shortest;
-          nonzero = now nonzero;
-          constants = now constants;
-        }) ⌝ }
+        × Shaped np ns (forcesOf form (now p2s) (now s2p) (now shortest) (now nonzero) (now constants)) ⌝ }
     requires { ⌜ ((x : ℕ) → x < 3
         → numbersIn (now w) (factorsAt np ns x) (np * ns) (np * ns)
         ≡ phaseFactors np ns (now vectors) (now multiplicity) (leg (record { leg0 = now q0; leg1 = now q1; leg2 = now q2 }) x)) ⌝ }
@@ -111,14 +104,8 @@ fn add_order(
         (λ m. cond (flagged (now (flags .entry)) m) (at (now (out .entry)) m)
         (at (now (out .entry)) m ⊕ strength np
         (reciprocalOf np ns anchoring
-        (record {
-          form = form;
-          p2s = now (p2s .entry);
-          s2p = now (s2p .entry);
-          shortest = now (shortest .entry);
-          nonzero = now (nonzero .entry);
-          constants = now (constants .entry);
-        }) (now (vectors .entry)) (now (multiplicity .entry))
+        (forcesOf form (now (p2s .entry)) (now (s2p .entry)) (now (shortest .entry)) (now (nonzero .entry)) (now (constants .entry)))
+        (now (vectors .entry)) (now (multiplicity .entry))
         (picked (record { leg0 = now (q0 .entry); leg1 = now (q1 .entry); leg2 = now (q2 .entry) }) (getD order 0 0)
         (getD order 1 0) (getD order 2 0)))
         (slotIn (now (w .entry)) np (now (frequencies .entry)) (record { leg0 = g0; leg1 = g1; leg2 = g2 })
@@ -194,14 +181,7 @@ pub fn real_to_normal_sym_q(
         × (ns ≤ 256)
         × (endAt np ns ≤ length (now w))
         × Anchored (now vectors) (now multiplicity) (now p2s) np
-        × Shaped np ns (record {
-          form = form;
-          p2s = now p2s;
-          s2p = now s2p;
-          shortest = now shortest;
-          nonzero = now nonzero;
-          constants = now constants;
-        }) ⌝ }
+        × Shaped np ns (forcesOf form (now p2s) (now s2p) (now shortest) (now nonzero) (now constants)) ⌝ }
     requires { ⌜ ((x : ℕ) → x < 3
         → numbersIn (now w) (factorsAt np ns x) (np * ns) (np * ns)
         ≡ phaseFactors np ns (now vectors) (now multiplicity) (leg (record { leg0 = now q0; leg1 = now q1; leg2 = now q2 }) x)) ⌝ }
@@ -215,19 +195,14 @@ pub fn real_to_normal_sym_q(
         (λ m. cond (flagged (now (flags .entry)) m) f0
         (fold 6 f0
         (sixthOf np ns anchoring
-        (record {
-          form = form;
-          p2s = now (p2s .entry);
-          s2p = now (s2p .entry);
-          shortest = now (shortest .entry);
-          nonzero = now (nonzero .entry);
-          constants = now (constants .entry);
-        }) (now (vectors .entry)) (now (multiplicity .entry))
+        (forcesOf form (now (p2s .entry)) (now (s2p .entry)) (now (shortest .entry)) (now (nonzero .entry)) (now (constants .entry)))
+        (now (vectors .entry)) (now (multiplicity .entry))
         (record { leg0 = now (q0 .entry); leg1 = now (q1 .entry); leg2 = now (q2 .entry) }) (now (w .entry))
         (now (frequencies .entry)) (record { leg0 = g0; leg1 = g1; leg2 = g2 }) (now (bands .entry)) cutoff m))))
         × Kept (now (w .entry)) (now (w .exit)) (preAt np ns) (endAt np ns) ⌝ }
 {
-    clear(out);
+    let n = out.len();
+    clear(out, n);
     for o in 0..6 {
         add_order(
             out,

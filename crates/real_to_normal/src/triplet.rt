@@ -1,4 +1,4 @@
-// get_interaction_at_triplet of interaction.rs: the slots of one triplet, from the q and the grid points of its legs.
+// The work of get_interaction_at_triplet of interaction.rs: the slots of one triplet, from the q and the grid points of its legs.
 use crate::legs::prepare;
 use crate::plain::real_to_normal;
 use crate::symmetrized::real_to_normal_sym_q;
@@ -7,16 +7,17 @@ use phonon::Form;
 use phonon::Measures;
 use phonon::Settings;
 use phonon::Symmetry;
+use planes::clear;
 use planes::index_of;
 use planes::work_length;
 use real_to_reciprocal::phases::compute_q_vec;
 ghost use mathlib.Core.Path.{_≡_};
 ghost use mathlib.Core.Bool.{true};
-ghost use mathlib.Core.List.{_++_};
 ghost use Prim.Native.Nat.{_+_, _-_, _*_, _≤_};
 ghost use lib.IntN.{pos};
-ghost use lib.ListN.{length, drop, replicate};
-ghost use Rattle.phonon.specs.Number.{f0, at, table};
+ghost use lib.ListN.{length};
+ghost use Rattle.phonon.specs.Number.{at, table};
+ghost use Rattle.phonon.specs.Sets.{forcesOf};
 ghost use Rattle.phonon.specs.Tests.{allWithin};
 ghost use Rattle.phonon.specs.Interaction as Interaction;
 ghost use Rattle.phonon.specs.ReciprocalToNormal.{inverseRoots};
@@ -26,18 +27,8 @@ ghost use Rattle.planes.specs.Region.{Kept};
 ghost use Rattle.real_to_reciprocal.specs.Shape.{Ranged, Anchored, Shaped};
 ghost use Rattle.real_to_normal.specs.Work.{endAt, reciprocalOf, slotPhonons, slotValue};
 
-// The first n numbers 0.0.
-pub fn clear_work(w: &mut [f64], n: usize)
-    requires { ⌜ n ≤ length (now w) ⌝ }
-    ensures { λ _. ⌜ now (w .exit) ≡ replicate n f0 ++ drop n (now (w .entry)) ⌝ }
-{
-    for i in 0..n {
-        w[i] = 0.0;
-    }
-}
-
 // The slots of one triplet, whose grid points are g0, g1, g2 and whose q are q0, q1, q2.
-pub fn slots_of(
+fn slots_of(
     strengths: &mut [f64],
     flags: &[u8],
     work: &mut [f64],
@@ -71,14 +62,7 @@ pub fn slots_of(
         × (endAt np ns ≤ length (now work))
         × Anchored (now vectors) (now multiplicity) (now p2s) np
         × Ranged (now vectors) (now multiplicity) (ns * np)
-        × Shaped np ns (record {
-          form = form;
-          p2s = now p2s;
-          s2p = now s2p;
-          shortest = now shortest;
-          nonzero = now nonzero;
-          constants = now constants;
-        }) ⌝ }
+        × Shaped np ns (forcesOf form (now p2s) (now s2p) (now shortest) (now nonzero) (now constants)) ⌝ }
     requires { ⌜ (np ≤ length (now masses))
         × (2 * ((g0 + 1) * (3 * np * (3 * np))) ≤ length (now eigenvectors))
         × (2 * ((g1 + 1) * (3 * np * (3 * np))) ≤ length (now eigenvectors))
@@ -92,14 +76,8 @@ pub fn slots_of(
     ensures { λ _. ⌜ (now (strengths .exit) ≡ table (length (now (bands .entry)) * (3 * np) * (3 * np))
         (λ m. slotValue symmetry
         (reciprocalOf np ns anchoring
-        (record {
-          form = form;
-          p2s = now (p2s .entry);
-          s2p = now (s2p .entry);
-          shortest = now (shortest .entry);
-          nonzero = now (nonzero .entry);
-          constants = now (constants .entry);
-        }) (now (vectors .entry)) (now (multiplicity .entry))) np
+        (forcesOf form (now (p2s .entry)) (now (s2p .entry)) (now (shortest .entry)) (now (nonzero .entry)) (now (constants .entry)))
+        (now (vectors .entry)) (now (multiplicity .entry))) np
         (record { leg0 = now (q0 .entry); leg1 = now (q1 .entry); leg2 = now (q2 .entry) })
         (slotPhonons np (inverseRoots np (now (masses .entry)))
         (record { frequencies = now (frequencies .entry); eigenvectors = now (eigenvectors .entry) })
@@ -295,5 +273,5 @@ pub fn work_triplet(
         ns,
         settings.cutoff,
     );
-    clear_work(work, n);
+    clear(work, n);
 }

@@ -1,15 +1,14 @@
 -- A fold that passes every supercell atom but the copies of y, walked from copy to copy.
 use mathlib.Core.Path.{_≡_, refl, sym, ap, _∙_, subst}
 use mathlib.Core.Bool.{cond}
-use mathlib.Core.Logic.{⊎-elim}
 use mathlib.Core.List.{List}
 use Prim.Native.Nat.{ℕ, zero, suc, _+_, _-_, _<_, _≤_}
-use native.Mathlib.Nat.{eq-or-lt-of-le}
 use native.Mathlib.Omega.{arith}
 use lib.IntN.{ℤ}
 use lib.Dec.{eqb}
 use lib.ListN.{length, getD, set}
 use lib.Seq.{getD-set-same, getD-set-other}
+use borrow.Author.Count.{below-more}
 use borrow.Author.Tests.{eq-eqb, ne-eqb}
 use Rattle.phonon.specs.Number.{index, int, fold}
 use Rattle.phonon.proofs.Laws.{fold-add, fold-step}
@@ -53,8 +52,7 @@ copy-at {s2p} {S} {y} {from} e c = subst (λ (n : ℕ). FirstCopy s2p S y from n
 -- a table of first copies, one entry more
 pub copies-more : {n v : ℕ} (s2p : List ℤ) (S : ℕ) (goal from : ℕ → ℕ) (l : List ℕ) → n < length l → ((a : ℕ) → a < n → FirstCopy s2p S (goal a) (from a) (getD l a 0)) → FirstCopy s2p S (goal n) (from n) v
     → (a : ℕ) → a < n + 1 → FirstCopy s2p S (goal a) (from a) (getD (set l n v) a 0)
-copies-more {n} {v} s2p S goal from l room h c a p =
-    ⊎-elim
-    (λ (e : a ≡ n). subst (λ (b : ℕ). FirstCopy s2p S (goal b) (from b) (getD (set l n v) b 0)) (sym e) (subst (λ (r : ℕ). FirstCopy s2p S (goal n) (from n) r) (sym (getD-set-same l n v 0 room)) c))
-    (λ (q : a < n). subst (λ (r : ℕ). FirstCopy s2p S (goal a) (from a) r) (sym (getD-set-other l n a v 0 (λ (e : a ≡ n). omega arith))) (h a q))
-    (eq-or-lt-of-le {n = a} {m = n} (omega arith))
+copies-more {n} {v} s2p S goal from l room h c =
+    below-more (λ a. FirstCopy s2p S (goal a) (from a) (getD (set l n v) a 0)) n
+    (λ a q. copy-at (getD-set-other l n a v 0 (λ (e : a ≡ n). omega arith)) (h a q))
+    (copy-at (getD-set-same l n v 0 room) c)

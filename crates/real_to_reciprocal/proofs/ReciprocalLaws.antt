@@ -21,9 +21,9 @@ component-of : (S : ℕ) (a : Anchoring) (c : Forces) (w : Factors) (i j k x y z
     → anchored S c w i j k (e / 9) (e % 9 / 3) (e % 3) a ≡ componentAt S a c w x y z
 unfolding componentAt
 component-of S a c w i j k x y z b e h =
-    let ex : i ≡ x / 3 = omega (arith, b .low0, b .high0) in
-    let ey : j ≡ y / 3 = omega (arith, b .low1, b .high1) in
-    let ez : k ≡ z / 3 = omega (arith, b .low2, b .high2) in
+    let ex : i ≡ x / 3 = omega (arith, b .leg0 .low, b .leg0 .high) in
+    let ey : j ≡ y / 3 = omega (arith, b .leg1 .low, b .leg1 .high) in
+    let ez : k ≡ z / 3 = omega (arith, b .leg2 .low, b .leg2 .high) in
     let el : e / 9 ≡ x % 3 = omega arith in
     let em : e % 9 / 3 ≡ y % 3 = omega arith in
     let en : e % 3 ≡ z % 3 = omega arith in
@@ -48,7 +48,7 @@ module _ (fo po f0 f1 f2 P S : ℕ) (h : Below fo po f0 f1 f2 P S) (c : Forces) 
       join2 (omega arith) (omega arith) w
       (rw q at (stored-ext (valueIn l) v (λ x y z b. s .col (x % 3 * 9 + y % 3 * 3 + z % 3) (omega arith)
       ∙ component-of S a c (factorsIn l₁ po f0 f1 f2 P S) i j k x y z b (x % 3 * 9 + y % 3 * 3 + z % 3) refl
-      ∙ component-kept h (w .kept) c a x y z (omega (arith, b .high0)) (omega (arith, b .high1)) (omega (arith, b .high2)))))
+      ∙ component-kept h (w .kept) c a x y z (omega (arith, b .leg0 .high)) (omega (arith, b .leg1 .high)) (omega (arith, b .leg2 .high)))))
 
   pub turn-j : {l l₁ l₂ : List Float} (i j : ℕ) → i < P → j < P
       → Stored l l₁ fo P (Box (3 * i) (3 * i + 3) 0 (3 * j) 0 (3 * P)) (valueIn l) → Stored l₁ l₂ fo P (Box (3 * i) (3 * i + 3) (3 * j) (3 * j + 3) 0 (3 * P)) (valueIn l₁)
@@ -56,7 +56,7 @@ module _ (fo po f0 f1 f2 P S : ℕ) (h : Below fo po f0 f1 f2 P S) (c : Forces) 
   turn-j {l} i j pi pj w v =
       let q : 3 * j + 3 ≡ 3 * (j + 1) = omega arith in
       join1 (omega arith) (omega arith) w
-      (rw q at (stored-ext (valueIn l) v (λ x y z b. component-kept h (w .kept) c a x y z (omega (arith, b .high0)) (omega (arith, b .high1)) (omega (arith, b .high2)))))
+      (rw q at (stored-ext (valueIn l) v (λ x y z b. component-kept h (w .kept) c a x y z (omega (arith, b .leg0 .high)) (omega (arith, b .leg1 .high)) (omega (arith, b .leg2 .high)))))
 
   pub turn-i : {l l₁ l₂ : List Float} (i : ℕ) → i < P
       → Stored l l₁ fo P (Box 0 (3 * i) 0 (3 * P) 0 (3 * P)) (valueIn l) → Stored l₁ l₂ fo P (Box (3 * i) (3 * i + 3) 0 (3 * P) 0 (3 * P)) (valueIn l₁)
@@ -64,7 +64,7 @@ module _ (fo po f0 f1 f2 P S : ℕ) (h : Below fo po f0 f1 f2 P S) (c : Forces) 
   turn-i {l} i pi w v =
       let q : 3 * i + 3 ≡ 3 * (i + 1) = omega arith in
       join0 (omega arith) (omega arith) w
-      (rw q at (stored-ext (valueIn l) v (λ x y z b. component-kept h (w .kept) c a x y z (omega (arith, b .high0)) (omega (arith, b .high1)) (omega (arith, b .high2)))))
+      (rw q at (stored-ext (valueIn l) v (λ x y z b. component-kept h (w .kept) c a x y z (omega (arith, b .leg0 .high)) (omega (arith, b .leg1 .high)) (omega (arith, b .leg2 .high)))))
 
   -- entry (x, y, z) of atoms i, j and k, once all is stored
   entry-of : {l l₁ : List Float} → Stored l l₁ fo P (Box 0 (3 * P) 0 (3 * P) 0 (3 * P)) (valueIn l) → (i j k x y z : ℕ) → i < P → j < P → k < P → x < 3 → y < 3 → z < 3
@@ -78,7 +78,7 @@ module _ (fo po f0 f1 f2 P S : ℕ) (h : Below fo po f0 f1 f2 P S) (c : Forces) 
       let em : (3 * j + y) % 3 ≡ y = omega arith in
       let en : (3 * k + z) % 3 ≡ z = omega arith in
       w .inside (3 * i + x) (3 * j + y) (3 * k + z) (omega arith) (omega arith) (omega arith)
-      (record { low0 = omega arith; high0 = omega arith; low1 = omega arith; high1 = omega arith; low2 = omega arith; high2 = omega arith })
+      (record { leg0 = record { low = omega arith; high = omega arith }; leg1 = record { low = omega arith; high = omega arith }; leg2 = record { low = omega arith; high = omega arith } })
       ∙ rw (ex, ey, ez, el, em, en)
 
   pub all-stored : {l l₁ : List Float} → Stored l l₁ fo P (Box 0 (3 * P) 0 (3 * P) 0 (3 * P)) (valueIn l)

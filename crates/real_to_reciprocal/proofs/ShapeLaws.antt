@@ -13,12 +13,12 @@ use Rattle.phonon.specs.Tests.{allWithin}
 use Rattle.phonon.specs.Sets.{Forces}
 use Rattle.phonon.specs.RealToReciprocal.{rowOf, entry}
 use Rattle.phonon.proofs.Laws.{pair-lt}
+use Rattle.phonon.proofs.Accepted.{index-below}
 use Rattle.real_to_reciprocal.specs.Shape.{rowsFor, Shaped}
-use Rattle.real_to_reciprocal.proofs.TestLaws.{atom-below}
 
 row-below : (f : Form) (P S : ℕ) (p2s : List ℤ) (i : ℕ) → 1 ≤ S → length p2s ≡ P → allWithin (pos 0) (pos (S - 1)) p2s ≡ true → i < P → rowOf f p2s i < rowsFor f P S
 row-below Compact P S p2s i h e w l = l
-row-below Full P S p2s i h e w l = atom-below S p2s h w i (omega arith)
+row-below Full P S p2s i h e w l = index-below S p2s h w i (omega arith)
 
 -- the entries of supercell atoms j and k, for atom i with its row
 pub record PairIn (S : ℕ) (c : Forces) (i row j k : ℕ) : Type 0 where

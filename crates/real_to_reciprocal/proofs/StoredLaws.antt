@@ -3,7 +3,7 @@ use mathlib.Core.Path.{_≡_, refl, sym, ap, _∙_}
 use mathlib.Core.Logic.{_⊎_, inl, inr, ⊎-elim}
 use mathlib.Core.List.{List}
 use Prim.Native.Nat.{ℕ, _+_, _-_, _*_, _<_, _≤_}
-use native.Mathlib.Nat.{mul-comm, mul-left-comm}
+use native.Mathlib.Nat.{mul-comm, mul-left-comm, le-mul-of-pos-right}
 use native.Mathlib.Decide.{decLt}
 use native.Mathlib.Omega.{arith}
 use lib.Ieee.{Float}
@@ -13,8 +13,8 @@ use Rattle.planes.specs.Split.{split, WroteSplit}
 use Rattle.planes.specs.Layout.{constantAt}
 use Rattle.planes.proofs.SplitLaws.{complex-eq, split-at}
 use Rattle.planes.proofs.RegionLaws.{kept-none, kept-then}
-use Rattle.planes.proofs.Products.{row-le, le-times, row-same, place-same}
-use Rattle.real_to_reciprocal.specs.Stored.{Box, Stored}
+use Rattle.planes.proofs.Products.{row-le, row-same, place-same}
+use Rattle.real_to_reciprocal.specs.Stored.{Span, Box, Stored}
 
 -- ---- sets of entries
 
@@ -37,37 +37,44 @@ module _ {l : List Float} {fo P : ℕ} {f : ℕ → ℕ → ℕ → Complex} whe
   pub stored-ext : {l₁ : List Float} {In : ℕ → ℕ → ℕ → Type 0} (g : ℕ → ℕ → ℕ → Complex) → Stored l l₁ fo P In f → ((al bm cn : ℕ) → In al bm cn → f al bm cn ≡ g al bm cn) → Stored l l₁ fo P In g
   stored-ext g w e = record { kept = w .kept; inside = λ al bm cn p q r h. w .inside al bm cn p q r h ∙ e al bm cn h; other = w .other }
 
+-- two spans, side by side
+module _ {a a′ m x : ℕ} where
+  span-first : m ≤ a′ → Span a m x → Span a a′ x
+  span-first h s = record { low = s .low; high = omega arith }
+
+  span-second : a ≤ m → Span m a′ x → Span a a′ x
+  span-second h s = record { low = omega arith; high = s .high }
+
+  -- which of the two
+  span-cut : Span a a′ x → Span m a′ x ⊎ (Span a m x × (Span m a′ x → ⊥))
+  span-cut s = go (decLt x m)
+    where
+      go : Dec (x < m) → Span m a′ x ⊎ (Span a m x × (Span m a′ x → ⊥))
+      go (yes h) = inr (record { low = s .low; high = h }, λ t. omega (arith, t .low))
+      go (no h) = inl (record { low = omega arith; high = s .high })
+
 -- two boxes, side by side along one leg
 module _ {l l₁ l₂ : List Float} {fo P : ℕ} {f : ℕ → ℕ → ℕ → Complex} {a a′ b b′ c c′ : ℕ} where
   pub join0 : {m : ℕ} → a ≤ m → m ≤ a′ → Stored l l₁ fo P (Box a m b b′ c c′) f → Stored l₁ l₂ fo P (Box m a′ b b′ c c′) f → Stored l l₂ fo P (Box a a′ b b′ c c′) f
-  join0 {m} p q w v =
-      stored-then (Box a a′ b b′ c c′) w v (λ al bm cn g. part al bm cn g (decLt al m))
-      (λ al bm cn g. record { low0 = g .low0; high0 = omega arith; low1 = g .low1; high1 = g .high1; low2 = g .low2; high2 = g .high2 })
-      (λ al bm cn g. record { low0 = omega arith; high0 = g .high0; low1 = g .low1; high1 = g .high1; low2 = g .low2; high2 = g .high2 })
-    where
-      part : (al bm cn : ℕ) → Box a a′ b b′ c c′ al bm cn → Dec (al < m) → Box m a′ b b′ c c′ al bm cn ⊎ (Box a m b b′ c c′ al bm cn × (Box m a′ b b′ c c′ al bm cn → ⊥))
-      part al bm cn g (yes h) = inr (record { low0 = g .low0; high0 = h; low1 = g .low1; high1 = g .high1; low2 = g .low2; high2 = g .high2 }, λ k. omega (arith, k .low0))
-      part al bm cn g (no h) = inl (record { low0 = omega arith; high0 = g .high0; low1 = g .low1; high1 = g .high1; low2 = g .low2; high2 = g .high2 })
+  join0 p q w v =
+      stored-then (Box a a′ b b′ c c′) w v
+      (λ al bm cn g. ⊎-elim (λ s. inl (record { leg0 = s; leg1 = g .leg1; leg2 = g .leg2 })) (λ s. inr (record { leg0 = s .0; leg1 = g .leg1; leg2 = g .leg2 }, λ k. s .1 (k .leg0))) (span-cut (g .leg0)))
+      (λ al bm cn g. record { leg0 = span-first q (g .leg0); leg1 = g .leg1; leg2 = g .leg2 })
+      (λ al bm cn g. record { leg0 = span-second p (g .leg0); leg1 = g .leg1; leg2 = g .leg2 })
 
   pub join1 : {m : ℕ} → b ≤ m → m ≤ b′ → Stored l l₁ fo P (Box a a′ b m c c′) f → Stored l₁ l₂ fo P (Box a a′ m b′ c c′) f → Stored l l₂ fo P (Box a a′ b b′ c c′) f
-  join1 {m} p q w v =
-      stored-then (Box a a′ b b′ c c′) w v (λ al bm cn g. part al bm cn g (decLt bm m))
-      (λ al bm cn g. record { low0 = g .low0; high0 = g .high0; low1 = g .low1; high1 = omega arith; low2 = g .low2; high2 = g .high2 })
-      (λ al bm cn g. record { low0 = g .low0; high0 = g .high0; low1 = omega arith; high1 = g .high1; low2 = g .low2; high2 = g .high2 })
-    where
-      part : (al bm cn : ℕ) → Box a a′ b b′ c c′ al bm cn → Dec (bm < m) → Box a a′ m b′ c c′ al bm cn ⊎ (Box a a′ b m c c′ al bm cn × (Box a a′ m b′ c c′ al bm cn → ⊥))
-      part al bm cn g (yes h) = inr (record { low0 = g .low0; high0 = g .high0; low1 = g .low1; high1 = h; low2 = g .low2; high2 = g .high2 }, λ k. omega (arith, k .low1))
-      part al bm cn g (no h) = inl (record { low0 = g .low0; high0 = g .high0; low1 = omega arith; high1 = g .high1; low2 = g .low2; high2 = g .high2 })
+  join1 p q w v =
+      stored-then (Box a a′ b b′ c c′) w v
+      (λ al bm cn g. ⊎-elim (λ s. inl (record { leg0 = g .leg0; leg1 = s; leg2 = g .leg2 })) (λ s. inr (record { leg0 = g .leg0; leg1 = s .0; leg2 = g .leg2 }, λ k. s .1 (k .leg1))) (span-cut (g .leg1)))
+      (λ al bm cn g. record { leg0 = g .leg0; leg1 = span-first q (g .leg1); leg2 = g .leg2 })
+      (λ al bm cn g. record { leg0 = g .leg0; leg1 = span-second p (g .leg1); leg2 = g .leg2 })
 
   pub join2 : {m : ℕ} → c ≤ m → m ≤ c′ → Stored l l₁ fo P (Box a a′ b b′ c m) f → Stored l₁ l₂ fo P (Box a a′ b b′ m c′) f → Stored l l₂ fo P (Box a a′ b b′ c c′) f
-  join2 {m} p q w v =
-      stored-then (Box a a′ b b′ c c′) w v (λ al bm cn g. part al bm cn g (decLt cn m))
-      (λ al bm cn g. record { low0 = g .low0; high0 = g .high0; low1 = g .low1; high1 = g .high1; low2 = g .low2; high2 = omega arith })
-      (λ al bm cn g. record { low0 = g .low0; high0 = g .high0; low1 = g .low1; high1 = g .high1; low2 = omega arith; high2 = g .high2 })
-    where
-      part : (al bm cn : ℕ) → Box a a′ b b′ c c′ al bm cn → Dec (cn < m) → Box a a′ b b′ m c′ al bm cn ⊎ (Box a a′ b b′ c m al bm cn × (Box a a′ b b′ m c′ al bm cn → ⊥))
-      part al bm cn g (yes h) = inr (record { low0 = g .low0; high0 = g .high0; low1 = g .low1; high1 = g .high1; low2 = g .low2; high2 = h }, λ k. omega (arith, k .low2))
-      part al bm cn g (no h) = inl (record { low0 = g .low0; high0 = g .high0; low1 = g .low1; high1 = g .high1; low2 = omega arith; high2 = g .high2 })
+  join2 p q w v =
+      stored-then (Box a a′ b b′ c c′) w v
+      (λ al bm cn g. ⊎-elim (λ s. inl (record { leg0 = g .leg0; leg1 = g .leg1; leg2 = s })) (λ s. inr (record { leg0 = g .leg0; leg1 = g .leg1; leg2 = s .0 }, λ k. s .1 (k .leg2))) (span-cut (g .leg2)))
+      (λ al bm cn g. record { leg0 = g .leg0; leg1 = g .leg1; leg2 = span-first q (g .leg2) })
+      (λ al bm cn g. record { leg0 = g .leg0; leg1 = g .leg1; leg2 = span-second p (g .leg2) })
 
 -- ---- places
 
@@ -83,7 +90,7 @@ place-in {P} {al} {cn} p q =
     record {
       row = row-le (3 * P) q;
       planes = omega (arith, row-le D p, mul-comm (3 * P) D);
-      square = le-times (3 * P) (omega arith);
+      square = le-mul-of-pos-right (3 * P) (omega arith);
     }
 
 -- the component of the first leg, and the place in its two planes
@@ -125,7 +132,7 @@ module _ (fo P al j cn : ℕ) (pa : al < 3 * P) (pj : j < P) (pc : cn < 3 * P) w
     at-run e =
         let h = same-plane (3 * P) (3 * P * (3 * P)) x y z al (3 * j + m) cn py (omega arith) (row-le (3 * P) pz) (row-le (3 * P) pc) e in
         let h0 = h .0 in let h1 = h .1 in let h2 = h .2 in
-        record { low0 = omega arith; high0 = omega arith; low1 = omega arith; high1 = omega arith; low2 = omega arith; high2 = omega arith }
+        record { leg0 = record { low = omega arith; high = omega arith }; leg1 = record { low = omega arith; high = omega arith }; leg2 = record { low = omega arith; high = omega arith } }
 
     real-imag : 2 * (x * (3 * P * (3 * P))) + (z * (3 * P) + y) ≡ 2 * (al * (3 * P * (3 * P))) + (3 * P * (3 * P) + (cn * (3 * P) + (3 * j + m))) → ⊥
     real-imag e = other-plane (3 * P) (3 * P * (3 * P)) x y z al (3 * j + m) cn py (omega arith) (row-le (3 * P) pz) (row-le (3 * P) pc) e
@@ -148,10 +155,10 @@ module _ (fo P al j cn : ℕ) (pa : al < 3 * P) (pj : j < P) (pc : cn < 3 * P) w
     where
       within : (x y z : ℕ) → Box al (al + 1) (3 * j) (3 * j + 3) cn (cn + 1) x y z → constantAt l₁ fo P x y z ≡ f x y z
       within x y z b =
-          let ex : x ≡ al = omega (arith, b .low0, b .high0) in
-          let ez : z ≡ cn = omega (arith, b .low2, b .high2) in
-          let m : y - 3 * j < 3 = omega (arith, b .low1, b .high1) in
-          let ey : 3 * j + (y - 3 * j) ≡ y = omega (arith, b .low1) in
+          let ex : x ≡ al = omega (arith, b .leg0 .low, b .leg0 .high) in
+          let ez : z ≡ cn = omega (arith, b .leg2 .low, b .leg2 .high) in
+          let m : y - 3 * j < 3 = omega (arith, b .leg1 .low, b .leg1 .high) in
+          let ey : 3 * j + (y - 3 * j) ≡ y = omega (arith, b .leg1 .low) in
           rw (ex, ez)
           (ap (λ (k : ℕ). split l₁ (fo + 2 * (al * (3 * P * (3 * P)))) k (cn * (3 * P) + y)) (sym ed)
           ∙ split-at l₁ (fo + 2 * (al * (3 * P * (3 * P)))) o d (cn * (3 * P) + y) (y - 3 * j) (omega arith)

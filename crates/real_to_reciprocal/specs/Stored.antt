@@ -11,14 +11,16 @@ use Rattle.planes.specs.Split.{split}
 use Rattle.planes.specs.Region.{Kept}
 use Rattle.planes.specs.Layout.{constantAt}
 
+-- from a to below a′
+pub record Span (a a′ x : ℕ) : Type 0 where
+  pub low : a ≤ x
+  pub high : x < a′
+
 -- the components from a to below a′ of the first leg, from b to below b′ of the second, from c to below c′ of the third
 pub record Box (a a′ b b′ c c′ al bm cn : ℕ) : Type 0 where
-  pub low0 : a ≤ al
-  pub high0 : al < a′
-  pub low1 : b ≤ bm
-  pub high1 : bm < b′
-  pub low2 : c ≤ cn
-  pub high2 : cn < c′
+  pub leg0 : Span a a′ al
+  pub leg1 : Span b b′ bm
+  pub leg2 : Span c c′ cn
 
 -- the end of the region
 abbrev pub regionEnd : ℕ → ℕ → ℕ

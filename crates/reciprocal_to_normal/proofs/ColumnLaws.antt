@@ -1,11 +1,10 @@
 -- Sums of columns, and rows that are written some columns at a time.
 use mathlib.Core.Path.{_≡_, ap, ap₂, _∙_}
-use mathlib.Core.Logic.{⊎-elim}
 use mathlib.Core.List.{List}
 use Prim.Native.Nat.{ℕ, _+_, _*_, _<_, _≤_}
-use native.Mathlib.Nat.{eq-or-lt-of-le}
 use native.Mathlib.Omega.{arith}
 use lib.ListN.{length, replicate, length-replicate}
+use borrow.Author.Count.{below-more}
 use lib.Ieee.{Float}
 use Rattle.phonon.specs.declared.Complex.{Complex}
 use Rattle.phonon.specs.Number.{at, f0}
@@ -32,11 +31,10 @@ pub lanes-step : {l l′ t : List Float} {m : ℕ} {f : ℕ → ℕ → Complex}
 lanes-step {l} {l′} {t} {m} {f} s w u =
     record {
       size = w .size ∙ s .size;
-      sum = λ p c h q. ⊎-elim
-          (λ (e : p ≡ m). rw e (complex-eq (w .inside c (omega arith)) (ap (at l′) (omega arith) ∙ w .inside (6 + c) (omega arith))
-          ∙ complex-eq (ap (at t) (omega arith)) (ap (at t) (omega arith)) ∙ u .col c q))
-          (λ (b : p < m). complex-eq (w .before _ (omega arith)) (w .before _ (omega arith)) ∙ s .sum p c b q)
-          (eq-or-lt-of-le {n = p} {m = m} (omega arith));
+      sum = λ p c h q. below-more (λ p. split l′ (12 * p) 6 c ≡ f p c) m
+          (λ p b. complex-eq (w .before _ (omega arith)) (w .before _ (omega arith)) ∙ s .sum p c b q)
+          (complex-eq (w .inside c (omega arith)) (ap (at l′) (omega arith) ∙ w .inside (6 + c) (omega arith))
+          ∙ complex-eq (ap (at t) (omega arith)) (ap (at t) (omega arith)) ∙ u .col c q) p h;
     }
 
 pub lanes-join : {l t : List Float} {f : ℕ → ℕ → Complex} → Lanes l 4 f → Cols t 6 (λ c. cadd (cadd (split l 0 6 c) (split l 12 6 c)) (cadd (split l 24 6 c) (split l 36 6 c)))

@@ -1,16 +1,14 @@
 -- What a slot gathers, and that its number lies in the listing.
-use mathlib.Core.Path.{_≡_, sym, ap, _∙_}
-use mathlib.Core.Logic.{⊎-elim}
+use mathlib.Core.Path.{_≡_, ap, _∙_}
 use mathlib.Core.List.{List, [], _∷_}
 use Prim.Native.Nat.{ℕ, zero, suc, _+_, _*_, _<_, _≤_}
-use native.Mathlib.Nat.{mul-assoc, mul-le-mul, eq-or-lt-of-le}
+use native.Mathlib.Nat.{mul-assoc, mul-le-mul}
 use native.Mathlib.Omega.{arith}
-use lib.ListN.{length, getD, set}
-use lib.Seq.{ext-getD, getD-set-same, getD-set-other}
-use lib.Ieee.{Float, nan}
-use Rattle.phonon.specs.Number.{_⊕_, _⊘_, f0, f6, at, table}
+use lib.ListN.{getD}
+use lib.Ieee.{Float}
+use Rattle.phonon.specs.Number.{_⊕_, _⊘_, f6, at}
 use Rattle.phonon.specs.Sets.{slot}
-use Rattle.phonon.proofs.Laws.{pair-lt, table-at, table-length}
+use Rattle.phonon.proofs.Laws.{pair-lt}
 use Rattle.reciprocal_to_normal.specs.Slots.{bOf, jOf, kOf}
 use Rattle.reciprocal_to_normal.specs.Listing.{sourcePlace, gathered}
 use Rattle.reciprocal_to_normal.proofs.SlotLaws.{j-of, k-of}
@@ -50,17 +48,3 @@ module _ (l : List Float) (to B : ℕ) (order : List ℕ) where
   pub band-gathered : (n b m : ℕ) (band : ℕ → ℕ) (old : Float) → n ≡ band b → bOf B m ≡ b → gathered l to B order (λ i. n) old m ≡ gathered l to B order band old m
   unfolding gathered
   band-gathered n b m band old e eb = rw (eb, e)
-
--- ---- all numbers 0.0
-
-pub cleared-step : (l : List Float) (i : ℕ) → i < length l → ((n : ℕ) → n < i → at l n ≡ f0) → (n : ℕ) → n < i + 1 → at (set l i f0) n ≡ f0
-cleared-step l i room h n p =
-    ⊎-elim
-    (λ (e : n ≡ i). rw e (getD-set-same l i f0 nan room))
-    (λ (q : n < i). getD-set-other l i n f0 nan (λ (e : n ≡ i). omega arith) ∙ h n q)
-    (eq-or-lt-of-le {n = n} {m = i} (omega arith))
-
-pub cleared-all : (l : List Float) (N : ℕ) → length l ≡ N → ((n : ℕ) → n < N → at l n ≡ f0) → l ≡ table N (λ n. f0)
-cleared-all l N e h =
-    ext-getD nan l (table N (λ n. f0)) (e ∙ sym (table-length N (λ n. f0)))
-    (λ n p. let q : n < N = omega (arith, e) in h n q ∙ sym (table-at N n (λ n. f0) nan q))

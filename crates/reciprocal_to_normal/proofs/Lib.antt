@@ -1,3 +1,4 @@
+-- The laws behind the contractions, the dot product, the slots and the listing.
 pub mod ContractLaws
 pub mod ScaleLaws
 pub mod DotLaws

@@ -5,13 +5,12 @@ use Prim.Native.Nat.{ℕ, _+_, _*_, _/_, _%_, _<_, _≤_}
 use native.Mathlib.Nat.{add-mul, mul-assoc, mul-comm, div-add-mod', mod-lt}
 use native.Mathlib.Omega.{arith}
 use lib.ListN.{take, drop}
-use lib.Seq.{getD-take, getD-drop}
 use lib.Ieee.{Float, nan}
 use Rattle.phonon.specs.declared.Complex.{Complex}
 use Rattle.phonon.specs.Number.{at}
 use Rattle.phonon.specs.Common.{scale, cat}
 use Rattle.phonon.specs.ReciprocalToNormal.{columnEntry, column}
-use Rattle.phonon.proofs.Laws.{ctable-ext, div-of, pair-lt}
+use Rattle.phonon.proofs.Laws.{ctable-ext, div-of, pair-lt, part-at}
 use Rattle.planes.specs.Split.{WroteSplit}
 use Rattle.planes.specs.Layout.{columnIn}
 use Rattle.planes.proofs.RegionLaws.{split-append, split-to}
@@ -48,7 +47,7 @@ module _ (eig l : List Float) (io np g eo : ℕ) (below : io + np ≤ eo) where
       split-to (a * (3 * (3 * np)) + 3 * (3 * np)) ((a + 1) * (3 * (3 * np))) (let e = add-mul a 1 (3 * (3 * np)) in omega arith)
       (split-append w v (omega arith) (omega arith) (run-le np h) (λ c p.
       ap₂ (λ x y. scale (cat eig x) y) (omega arith)
-      (w .before (io + a) (omega arith) ∙ sym (getD-take np (drop io l) a nan h ∙ getD-drop io l a nan) ∙ ap (at (take np (drop io l))) (sym (div-of (3 * (3 * np)) p a)))))
+      (w .before (io + a) (omega arith) ∙ sym (part-at l io np a nan h) ∙ ap (at (take np (drop io l))) (sym (div-of (3 * (3 * np)) p a)))))
 
   pub scaled-column : {l′ : List Float} → WroteSplit l l′ eo (3 * np * (3 * np)) (3 * np * (3 * np)) (scaled eig l io np g)
       → (n : ℕ) → n < 3 * np → columnIn l′ eo (3 * np) n ≡ column (3 * np) eig (take np (drop io l)) g n

@@ -15,7 +15,7 @@ ghost use Rattle.planes.specs.Split.{split, WroteSplit, Cols, column, strided};
 ghost use Rattle.reciprocal_to_normal.specs.Columns.{Lanes};
 
 // Adds v times the numbers from `from` on of the matrix, one to each of m columns.
-pub fn add_columns(t: &mut [f64], w: &[f64], from: usize, d: usize, v: Complex, m: usize)
+fn add_columns(t: &mut [f64], w: &[f64], from: usize, d: usize, v: Complex, m: usize)
     requires { ⌜ (length (now t) ≡ 2 * m) × (from + d + m ≤ length (now w)) ⌝ }
     ensures { λ _. ⌜ WroteSplit (now (t .entry)) (now (t .exit)) 0 m m
         (λ c. cadd (split (now (t .entry)) 0 m c) (cmul (split (now (w .entry)) from d c) v)) ⌝ }

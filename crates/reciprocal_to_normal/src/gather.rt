@@ -6,19 +6,10 @@ ghost use mathlib.Core.Bool.{true, cond};
 ghost use Prim.Native.Nat.{_+_, _-_, _*_, _/_, _%_, _<_, _≤_};
 ghost use lib.IntN.{pos};
 ghost use lib.ListN.{length, getD};
-ghost use Rattle.phonon.specs.Number.{_⊕_, _⊘_, f0, f6, at, index, int, flagged, table};
+ghost use Rattle.phonon.specs.Number.{_⊕_, _⊘_, f6, at, index, int, flagged, table};
 ghost use Rattle.phonon.specs.Tests.{allWithin};
 ghost use Rattle.reciprocal_to_normal.specs.Slots.{Visited, InColumn, InPlane};
 ghost use Rattle.reciprocal_to_normal.specs.Listing.{sourcePlace, gathered};
-
-// All numbers 0.0.
-pub fn clear(out: &mut [f64])
-    ensures { λ _. ⌜ now (out .exit) ≡ table (length (now (out .entry))) (λ n. f0) ⌝ }
-{
-    for i in 0..out.len() {
-        out[i] = 0.0;
-    }
-}
 
 // The number of the full listing that the slot of bands x, y, z gathers.
 fn source_place(order: [usize; 3], nb: usize, x: usize, y: usize, z: usize) -> usize

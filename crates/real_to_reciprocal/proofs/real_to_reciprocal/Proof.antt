@@ -60,13 +60,13 @@ later-copies-requires c κs =
     (omega (arith, p .1, length-replicate {A = ℕ} 256 0), omega (arith, p .2 .supercell), omega (arith, p .1))
 
 loop-holds : tie.Need-loop-holds Inv-loop3 μ-loop3 Inv-loop2 μ-loop2 Inv-loop μ-loop
-loop-holds c = (omega arith, stored-none _ (λ x y z h. omega (arith, h .low0, h .high0)))
+loop-holds c = (omega arith, stored-none _ (λ x y z h. omega (arith, h .leg0 .low, h .leg0 .high)))
 
 loop2-holds : tie.Need-loop2-holds Inv-loop3 μ-loop3 Inv-loop2 μ-loop2 Inv-loop μ-loop
-loop2-holds c = (omega arith, stored-none _ (λ x y z h. omega (arith, h .low1, h .high1)))
+loop2-holds c = (omega arith, stored-none _ (λ x y z h. omega (arith, h .leg1 .low, h .leg1 .high)))
 
 loop3-holds : tie.Need-loop3-holds Inv-loop3 μ-loop3 Inv-loop2 μ-loop2 Inv-loop μ-loop
-loop3-holds c = (omega arith, stored-none _ (λ x y z h. omega (arith, h .low2, h .high2)))
+loop3-holds c = (omega arith, stored-none _ (λ x y z h. omega (arith, h .leg2 .low, h .leg2 .high)))
 
 slice-aggregate-block :
     tie.Need-slice-aggregate-block Inv-loop3 μ-loop3 Inv-loop2 μ-loop2 Inv-loop μ-loop

@@ -101,8 +101,8 @@ slots-of-requires c κs =
       ),
     )
 
-clear-work-requires : tie.Need-clear-work-requires
-clear-work-requires c κs =
+clear-requires : tie.Need-clear-requires
+clear-requires c κs =
     let d = c .before .before .before .before .before .before .before .before .before .before .before .before .before .before in
     omega (arith, facts (set (start d)) (start d .pre) .work, c .before .before .before .before .before .slots-of .ensures .1 .size, d .before .before .before .before .before .before .work-length .ensures)
 
@@ -121,7 +121,7 @@ returns c =
     let r = c .before .before .before .before .before .before .before .before .slots-of .ensures in
     let q2 = c .before .before .before .before .before .before .before .before .before .before .before .before .before .before in (
       strengths-from (ofTriplet s) (start d .args .strengths .now) (point0 d) (point1 d) (point2 d) (q2 .before .before .compute-q-vec .ensures) (q2 .before .compute-q-vec2 .ensures) (q2 .compute-q-vec3 .ensures) (f .sized .bands) (r .0),
-      cleared-is (start d .args .m) (f .measured .atoms) (r .1) (d .before .before .before .before .before .before .work-length .ensures) (c .before .before .clear-work .ensures),
+      cleared-is (start d .args .m) (f .measured .atoms) (r .1) (d .before .before .before .before .before .before .work-length .ensures) (c .before .before .clear .ensures),
     )
 
 pub work-triplet-spec : {M : Type 1} → statement M
@@ -139,7 +139,7 @@ work-triplet-spec =
     compute-q-vec-requires-2
     compute-q-vec-requires-3
     slots-of-requires
-    clear-work-requires
+    clear-requires
     same-length
     same-length-2
     returns)

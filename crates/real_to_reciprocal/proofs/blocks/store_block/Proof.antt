@@ -15,7 +15,7 @@ abbrev μ-loop : tie.MeasureT-loop
 μ-loop w₀ fo np i j k t l₀ w l = 3 - l
 
 loop-holds : tie.Need-loop-holds Inv-loop μ-loop
-loop-holds c = (omega arith, stored-none _ (λ x y z h. omega (arith, h .low0, h .high0)))
+loop-holds c = (omega arith, stored-none _ (λ x y z h. omega (arith, h .leg0 .low, h .leg0 .high)))
 
 mul-store-plane : tie.Need-mul-store-plane Inv-loop μ-loop
 mul-store-plane c =
@@ -55,7 +55,7 @@ loop-again c =
       omega (arith, p),
       join0 (omega arith) (omega arith) (head .loop .inv .1)
           (rw h at (stored-ext (λ x y z. split (start .args .t .now) 0 27 (x % 3 * 9 + y % 3 * 3 + z % 3)) (c .before .before .store-plane .ensures)
-          (λ x y z b. ap (split (start .args .t .now) 0 27) (omega (arith, p, b .low0, b .high0))))),
+          (λ x y z b. ap (split (start .args .t .now) 0 27) (omega (arith, p, b .leg0 .low, b .leg0 .high))))),
     )
 
 same-length : tie.Need-same-length Inv-loop μ-loop

@@ -33,7 +33,7 @@ mul-d c =
     omega (arith, p .planes)
 
 loop-holds : tie.Need-loop-holds Inv-loop μ-loop
-loop-holds c = (omega arith, stored-none _ (λ x y z h. omega (arith, h .low2, h .high2)))
+loop-holds c = (omega arith, stored-none _ (λ x y z h. omega (arith, h .leg2 .low, h .leg2 .high)))
 
 mul-cn : tie.Need-mul-cn Inv-loop μ-loop
 mul-cn c =

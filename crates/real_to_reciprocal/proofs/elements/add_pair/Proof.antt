@@ -2,7 +2,7 @@
 use mathlib.Core.Path.{sym, _∙_}
 use Prim.Native.Nat.{_+_, _*_}
 use Rattle.planes.proofs.SplitLaws.{split-same, split-ext}
-use Rattle.planes.proofs.Products.{le-times}
+use native.Mathlib.Nat.{le-mul-of-pos-right}
 use Rattle.real_to_reciprocal.proofs.PairLaws.{pair-zero, pair-passed, pair-added}
 use native.Mathlib.Omega.{arith}
 use borrow.Author.Needs.{needs}
@@ -12,12 +12,12 @@ use Rattle.real_to_reciprocal.proofs.elements.add_pair.Tie as tie
 mul-n : tie.Need-mul-n
 mul-n c =
     let start = c .before .before .before .before .before in
-    omega (arith, le-times (start .args .row * start .args .ns + start .args .j) {n = start .args .ns} (omega arith))
+    omega (arith, le-mul-of-pos-right {m = start .args .ns} (start .args .row * start .args .ns + start .args .j) (omega arith))
 
 add-n : tie.Need-add-n
 add-n c =
     let start = c .before .before .before .before .before in
-    omega (arith, le-times (start .args .row * start .args .ns + start .args .j) {n = start .args .ns} (omega arith))
+    omega (arith, le-mul-of-pos-right {m = start .args .ns} (start .args .row * start .args .ns + start .args .j) (omega arith))
 
 mul-n-2 : tie.Need-mul-n-2
 mul-n-2 c = search needs

@@ -5,7 +5,7 @@ use lib.ListN.{length}
 use Rattle.phonon.specs.RealToReciprocal.{preFactorEntry}
 use Rattle.planes.specs.Split.{WroteSplit}
 use Rattle.planes.proofs.SplitLaws.{split-none, split-step}
-use Rattle.real_to_reciprocal.proofs.TestLaws.{atom-below}
+use Rattle.phonon.proofs.Accepted.{index-below}
 use Rattle.real_to_reciprocal.proofs.PhaseLaws.{anchor-in}
 use native.Mathlib.Omega.{arith}
 use Rattle.real_to_reciprocal.proofs.phases.pre_phase_factors.Statement.{statement}
@@ -25,7 +25,7 @@ get-pre-phase-factor-requires c κs =
     let start = c .before .before .before .before in
     let a = start .pre .1 in
     let l : c .before .loop .i < length (start .args .p2s .now) = omega (arith, a .atoms) in
-    let e = anchor-in (start .args .np) (start .args .vectors .now) (start .args .multiplicity .now) (start .args .p2s .now) (c .before .loop .i) (a .ranged) (omega arith) (atom-below _ _ (a .some) (a .anchors) _ l) in
+    let e = anchor-in (start .args .np) (start .args .vectors .now) (start .args .multiplicity .now) (start .args .p2s .now) (c .before .loop .i) (a .ranged) (omega arith) (index-below _ _ (a .some) (a .anchors) _ l) in
     (l, e .0, e .1)
 
 put-split-requires : tie.Need-put-split-requires Inv-loop μ-loop

@@ -4,10 +4,10 @@ use mathlib.Core.Path.{_≡_, refl}
 use mathlib.Core.List.{_++_}
 use lib.ListN.{length, length-set, replicate, drop}
 use Rattle.phonon.specs.Number.{f0}
-use Rattle.real_to_normal.proofs.TripletLaws.{clear-more}
+use Rattle.planes.proofs.ClearLaws.{clear-more}
 use native.Mathlib.Omega.{arith}
-use Rattle.real_to_normal.proofs.triplet.clear_work.Statement.{statement}
-use Rattle.real_to_normal.proofs.triplet.clear_work.Tie as tie
+use Rattle.planes.proofs.clear.Statement.{statement}
+use Rattle.planes.proofs.clear.Tie as tie
 
 abbrev Inv-loop : tie.InvT-loop
 Inv-loop w₀ n i₀ w i = (i ≤ n) × (length w ≡ length w₀) × (w ≡ replicate i f0 ++ drop i w₀)
@@ -43,8 +43,8 @@ returns c =
     let all : c .before .loop .i ≡ c .before .before .args .n = omega arith in
     rw all at (c .before .loop .inv .2)
 
-pub clear-work-spec : {M : Type 1} → statement M
-clear-work-spec =
+pub clear-spec : {M : Type 1} → statement M
+clear-spec =
     tie.close
     (tie.spec
     Inv-loop
