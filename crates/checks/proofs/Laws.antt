@@ -1,8 +1,8 @@
 -- Laws of the tests, over any test: the first number that fails one, and the test of all numbers below an end, tell the same.
 use Prim.Native.Nat.{ℕ, zero, suc, _+_, _-_, _*_, _≤_, _<_}
-use mathlib.Core.Bool.{Bool, true, false, _&&_, cond, true≢false}
+use mathlib.Core.Bool.{Bool, true, false, not, _&&_, cond, true≢false}
 use mathlib.Core.Path.{_≡_, refl, sym, _∙_}
-use mathlib.Core.List.{List, [], _∷_}
+use mathlib.Core.List.{List}
 use native.Mathlib.Nat.{zero-mul, sub-zero}
 use native.Mathlib.Numerals.{add-one}
 use native.Mathlib.Omega.{arith}
@@ -12,8 +12,8 @@ use Rattle.phonon.specs.Number.{_⊕_, at}
 use lib.Ieee.Fits.{up-pos}
 use lib.IntN.{ℤ, pos}
 use lib.Dec.{leb, eqb}
-use borrow.Author.Tests.{leb-true, leb-false, ltb-true, ltb-false, eqb-true, eq-eqb, ne-eqb}
-use Rattle.phonon.specs.Tests.{measured, everyBelow, firstFrom, finite, signBit, allTrue, allTrueAfter}
+use borrow.Author.Tests.{leb-true, leb-false, ltb-true, ltb-false, eqb-true, eq-eqb, ne-eqb, not-true, not-false}
+use Rattle.phonon.specs.Tests.{everyBelow, firstFrom, finite, signBit}
 use Rattle.phonon.proofs.Accepted.{and-both}
 use Rattle.phonon.proofs.Order.{zero-left}
 use Rattle.checks.specs.Scan.{Passed}
@@ -25,28 +25,13 @@ and-left a b e = and-both a b e .0
 pub and-right : (a b : Bool) → (a && b) ≡ true → b ≡ true
 and-right a b e = and-both a b e .1
 
--- ---- every test of a list of tests
+-- ---- what a test that the code branches on told
 
-abbrev pub Holds : List Bool → Type 0
-Holds [] = Unit
-Holds (b ∷ bs) = (b ≡ true) × Holds bs
+pub told-good : {a b : Bool} → a ≡ b → not a ≡ false → b ≡ true
+told-good e h = sym e ∙ not-false _ h
 
-holds-after : (a : Bool) (bs : List Bool) → allTrueAfter a bs ≡ true → (a ≡ true) × Holds bs
-unfolding allTrueAfter
-holds-after a [] e = (e, tt)
-holds-after a (b ∷ bs) e =
-    let h = holds-after (a && b) bs e in
-    (and-left a b (h .0), (and-right a b (h .0), h .1))
-
-pub holds : (bs : List Bool) → allTrue bs ≡ true → Holds bs
-unfolding allTrue
-holds [] e = tt
-holds (b ∷ bs) e = holds-after b bs e
-
--- the bounds that a measure's test shows
-pub measured-in : (low high n : ℕ) → measured low high n ≡ true → (low ≤ n) × (n ≤ high)
-measured-in low high n e =
-    (leb-true low n (and-left (leb low n) (leb n high) e), leb-true n high (and-right (leb low n) (leb n high) e))
+pub told-bad : {a b : Bool} → a ≡ b → not a ≡ true → b ≡ false
+told-bad e h = sym e ∙ not-true _ h
 
 -- two orders that follow from one another have one test
 leb-same-by : (a b c d : ℕ) → (a ≤ b → c ≤ d) → (c ≤ d → a ≤ b) → (t u : Bool) → leb a b ≡ t → leb c d ≡ u → leb a b ≡ leb c d

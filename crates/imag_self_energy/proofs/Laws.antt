@@ -3,7 +3,7 @@ use Prim.Native.Nat.{ℕ, _+_, _*_, _<_, _≤_}
 use native.Mathlib.Nat.{mul-le-mul-right, mul-assoc, one-mul, eq-or-lt-of-le}
 use native.Mathlib.Omega.{arith}
 use mathlib.Core.Path.{_≡_, refl, sym, ap, _∙_}
-use mathlib.Core.Bool.{Bool, true, false, not, _&&_, cond}
+use mathlib.Core.Bool.{Bool, true, false, not, _&&_, cond, Bool·not-not}
 use mathlib.Core.List.{List}
 use mathlib.Core.Logic.{_⊎_, ⊎-elim}
 use lib.Dec.{eqb}
@@ -18,12 +18,18 @@ use Rattle.phonon.specs.Funcs.{boseEinstein}
 use Rattle.phonon.specs.Sets.{slot, part}
 use Rattle.phonon.specs.Limits.{entriesOf}
 use Rattle.phonon.specs.ImagSelfEnergy.{Sum, block, placeOf, second1, third2, counted, contribution, slotTerm, total, totals}
-use Rattle.phonon.proofs.Accepted.{and-both}
 use Rattle.phonon.proofs.Laws.{fold-ext, fold-step, table-ext, table-at, table-length}
 use Rattle.funcs.specs.Occupation.{mark, marked}
-use Rattle.imag_self_energy.specs.Bands.{bandOf, Held, addSlot, slotStep, columnSum, bandTotal, Within, Sized}
+use Rattle.imag_self_energy.specs.Bands.{addSlot, slotStep, columnSum, bandTotal, Sized}
 
 -- ---- blocks
+
+-- block c of the flags g and the weights x and y, and block b of the strengths v, of area entries each, lie within the slices
+pub record Within (area c b : ℕ) (g : List ℕ) (x y v : List Float) : Type 0 where
+  pub flags : (c + 1) * area ≤ length g
+  pub first : (c + 1) * area ≤ length x
+  pub second : (c + 1) * area ≤ length y
+  pub strengths : (b + 1) * area ≤ length v
 
 -- block w b lies within the entries
 block-in : (w : Weights) (n F b : ℕ) → b < F → (block w b + 1) * n * n ≤ entriesOf w F n
@@ -42,80 +48,27 @@ sized-within {w} {n} {F} {b} c e p h =
       strengths = rw (h .strengths) (omega (arith, k, mul-assoc (b + 1) n n));
     }
 
--- ---- the bands of a leg
+-- ---- loops that fill a list
 
-pub above : (t c f : Float) {n : Float} → lt c f ≡ true → n ≡ boseEinstein f t → n ≡ marked t c f
-unfolding marked
-above t c f p e = e ∙ rw p refl
+-- the first n entries of a list are f 0, .., f (n - 1)
+pub record Filled {A : Type 0} (l : List A) (n : ℕ) (f : ℕ → A) : Type 0 where
+  pub filled : (i : ℕ) → i < n → (d : A) → getD l i d ≡ f i
 
-pub below : (t c f : Float) → lt c f ≡ false → mark ≡ marked t c f
-unfolding marked
-below t c f p = rw p refl
+pub filled-none : {A : Type 0} (l : List A) (f : ℕ → A) → Filled l 0 f
+filled-none l f = record { filled = λ i h d. absurd (omega arith) }
 
-pub band-made : (t c f n : Float) → n ≡ marked t c f → record { frequency = f; occupation = n } ≡ bandOf t c f
-unfolding bandOf
-band-made t c f n e = rw e refl
-
--- both exceed the cutoff
-pub both-above : (c f g : Float) → (lt c f && lt c g) ≡ true → (lt c f ≡ true) × (lt c g ≡ true)
-both-above c f g e = and-both (lt c f) (lt c g) e
-
-pub held-none : (t c : Float) (f : ℕ → Float) (l : List Band) → Held t c f 0 l
-held-none t c f l = record { held = λ i h d. absurd (omega arith) }
-
-pub held-step : {t c : Float} {f : ℕ → Float} {n : ℕ} {l : List Band} (x : Band) → Held t c f n l → n < length l → x ≡ bandOf t c (f n) → Held t c f (n + 1) (set l n x)
-held-step {t} {c} {f} {n} {l} x w h e =
+pub filled-step : {A : Type 0} {l : List A} {n : ℕ} {f : ℕ → A} (x : A) → Filled l n f → n < length l → x ≡ f n → Filled (set l n x) (n + 1) f
+filled-step {A} {l} {n} {f} x w h e =
     record {
-      held = λ i p d. ⊎-elim
+      filled = λ i p d. ⊎-elim
           (λ (q : i ≡ n). rw q (getD-set-same l n x d h ∙ e))
-          (λ (q : i < n). getD-set-other l n i x d (λ (z : i ≡ n). omega arith) ∙ w .held i q d)
-          (eq-or-lt-of-le {n = i} {m = n} (omega arith));
-    }
-
--- the bands of grid point g's stretch are those of the slice, from g * n on
-pub held-part : {t c : Float} {n : ℕ} {l : List Band} (g : ℕ) (fr leg : List Float) → leg ≡ part n g fr → Held t c (at leg) n l → Held t c (λ i. at fr (g * n + i)) n l
-held-part {t} {c} {n} g fr leg e w =
-    record {
-      held = λ i p d.
-          let a : at leg i ≡ at fr (g * n + i) = rw e (rw (getD-take, getD-drop) refl) in
-          w .held i p d ∙ ap (bandOf t c) a;
-    }
-
--- ---- loops
-
--- a turn of a counting loop, which makes r of x
-pub turn : {A : Type 0} (step : ℕ → A → A) (z : A) {r x : A} (n : ℕ) → r ≡ step n x → x ≡ fold n z step → r ≡ fold (n + 1) z step
-turn step z n er ex = er ∙ ap (step n) ex ∙ sym (fold-step n z step)
-
--- the last turn was number n
-pub at-end : {A : Type 0} (step : ℕ → A → A) (z : A) {r : A} (i n : ℕ) → i ≡ n → r ≡ fold i z step → r ≡ fold n z step
-at-end step z i n e h = h ∙ ap (λ (m : ℕ). fold m z step) e
-
--- the first n numbers of a list are f 0, .., f (n - 1)
-pub record Filled (l : List Float) (n : ℕ) (f : ℕ → Float) : Type 0 where
-  pub filled : (i : ℕ) → i < n → at l i ≡ f i
-
-pub filled-none : (l : List Float) (f : ℕ → Float) → Filled l 0 f
-filled-none l f = record { filled = λ i h. absurd (omega arith) }
-
-pub filled-step : {l : List Float} {n : ℕ} {f : ℕ → Float} (x : Float) → Filled l n f → n < length l → x ≡ f n → Filled (set l n x) (n + 1) f
-filled-step {l} {n} {f} x w h e =
-    record {
-      filled = λ i p. ⊎-elim
-          (λ (q : i ≡ n). rw q (getD-set-same l n x nan h ∙ e))
-          (λ (q : i < n). getD-set-other l n i x nan (λ (z : i ≡ n). omega arith) ∙ w .filled i q)
+          (λ (q : i < n). getD-set-other l n i x d (λ (z : i ≡ n). omega arith) ∙ w .filled i q d)
           (eq-or-lt-of-le {n = i} {m = n} (omega arith));
     }
 
 -- the last is written again
-pub filled-again : {l : List Float} {n : ℕ} {f : ℕ → Float} (x : Float) → Filled l (n + 1) f → n < length l → x ≡ f n → Filled (set l n x) (n + 1) f
-filled-again {l} {n} {f} x w h e =
-    record {
-      filled = λ i p. ⊎-elim
-          (λ (q : i ≡ n). rw q (getD-set-same l n x nan h ∙ e))
-          (λ (q : i < n). getD-set-other l n i x nan (λ (z : i ≡ n). omega arith) ∙ w .filled i p)
-          (eq-or-lt-of-le {n = i} {m = n} (omega arith));
-    }
+filled-again : {l : List Float} {n : ℕ} {f : ℕ → Float} (x : Float) → Filled l (n + 1) f → n < length l → x ≡ f n → Filled (set l n x) (n + 1) f
+filled-again {l} {n} {f} x w h e = let before : Filled l n f = record { filled = λ i p d. w .filled i (omega arith) d } in filled-step x before h e
 
 -- two turns, or the same one twice
 pub filled-two : {l : List Float} {b e : ℕ} {f : ℕ → Float} (x y : Float) → Filled l b f → b < length l → e < length l → x ≡ f b → y ≡ f e → (e ≡ b) ⊎ (e ≡ b + 1)
@@ -131,13 +84,50 @@ filled-two {l} {b} {e} {f} x y w h p u v o =
 -- a list that is filled whole is the table
 pub filled-table : {l : List Float} {n : ℕ} {f : ℕ → Float} → length l ≡ n → Filled l n f → l ≡ table n f
 filled-table {l} {n} {f} e w =
-    ext-getD nan l (table n f) (e ∙ sym (table-length n f)) (λ i h. let p : i < n = omega arith in w .filled i p ∙ sym (table-at n i f nan p))
+    ext-getD nan l (table n f) (e ∙ sym (table-length n f)) (λ i h. let p : i < n = omega arith in w .filled i p nan ∙ sym (table-at n i f nan p))
+
+-- ---- the bands of a leg
+
+-- set_occupations, for one band
+unfoldable pub bandOf : Float → Float → Float → Band
+bandOf temperature cutoff f = record { frequency = f; occupation = marked temperature cutoff f }
+
+-- the first n of an array are the bands of frequencies f 0, .., f (n - 1)
+abbrev pub Held : Float → Float → (ℕ → Float) → ℕ → List Band → Type 0
+Held temperature cutoff f n bands = Filled bands n (λ i. bandOf temperature cutoff (f i))
+
+pub above : (t c f : Float) {n : Float} → lt c f ≡ true → n ≡ boseEinstein f t → n ≡ marked t c f
+unfolding marked
+above t c f p e = e ∙ rw p refl
+
+pub below : (t c f : Float) → lt c f ≡ false → mark ≡ marked t c f
+unfolding marked
+below t c f p = rw p refl
+
+pub band-made : (t c f n : Float) → n ≡ marked t c f → record { frequency = f; occupation = n } ≡ bandOf t c f
+unfolding bandOf
+band-made t c f n e = rw e refl
+
+-- the bands of grid point g's stretch are those of the slice, from g * n on
+pub held-part : (t c : Float) {n : ℕ} {l : List Band} (g : ℕ) (fr leg : List Float) → leg ≡ part n g fr → Held t c (at leg) n l → Held t c (λ i. at fr (g * n + i)) n l
+held-part t c {n} g fr leg e w =
+    record {
+      filled = λ i p d.
+          let a : at leg i ≡ at fr (g * n + i) = rw e (rw (getD-take, getD-drop) refl) in
+          w .filled i p d ∙ ap (bandOf t c) a;
+    }
+
+-- ---- loops that sum
+
+-- a turn of a counting loop, which makes r of x
+pub turn : {A : Type 0} (step : ℕ → A → A) (z : A) {r x : A} (n : ℕ) → r ≡ step n x → x ≡ fold n z step → r ≡ fold (n + 1) z step
+turn step z n er ex = er ∙ ap (step n) ex ∙ sym (fold-step n z step)
+
+-- the last turn was number n
+pub at-end : {A : Type 0} (step : ℕ → A → A) (z : A) {r : A} (i n : ℕ) → i ≡ n → r ≡ fold i z step → r ≡ fold n z step
+at-end step z i n e h = h ∙ ap (λ (m : ℕ). fold m z step) e
 
 -- ---- one slot
-
-not-not : (b : Bool) → not (not b) ≡ b
-not-not true = refl
-not-not false = refl
 
 -- of the bands of frequencies f and h: where the slot counts, their occupations are worked out
 slot-is : (s : Sum) (t : Float) (g : ℕ) (f h x y v u : Float)
@@ -145,7 +135,7 @@ slot-is : (s : Sum) (t : Float) (g : ℕ) (f h x y v u : Float)
     ≡ cond (not (not (eqb g 0)) && lt (s .cutoff) f && lt (s .cutoff) h)
     (u ⊕ contribution t (float (s .weight)) (boseEinstein f t) (boseEinstein h t) x y v) u
 unfolding addSlot bandOf marked
-slot-is s t g f h x y v u = rw not-not (by (eqb g 0) (lt (s .cutoff) f) (lt (s .cutoff) h))
+slot-is s t g f h x y v u = rw Bool·not-not (by (eqb g 0) (lt (s .cutoff) f) (lt (s .cutoff) h))
   where
     by : (a p q : Bool)
         → cond (a && p && q) (u ⊕ contribution t (float (s .weight)) (cond p (boseEinstein f t) mark) (cond q (boseEinstein h t) mark) x y v) u
@@ -167,7 +157,7 @@ module _ (s : Sum) (t : Float) (v : List Float) {seconds thirds : List Band}
   total-is b =
       fold-ext (s .bands) f0 _ _
       (λ k pk u. fold-ext (s .bands) u _ _
-      (λ j pj a. rw (p .held j pj _, q .held k pk _)
+      (λ j pj a. rw (p .filled j pj _, q .filled k pk _)
       (slot-is s t (getD (s .flags) (placeOf s b j k) 0) (second1 s j) (third2 s k) (at (s .first) (placeOf s b j k)) (at (s .second) (placeOf s b j k)) (at v (slot (s .bands) b j k)) a)))
 
   pub totals-are : (F : ℕ) (w : Float) → w ≡ float (s .weight)

@@ -37,7 +37,7 @@ before-set m l v z g =
     (λ i h a. ap (λ (o : ℕ). g o a) (getD-set-other l m i v 0 (λ (e : i ≡ m). omega arith)))
 
 -- a place is written behind the list, and stays or not
-pub listed-kept : {area : ℕ} {walk : Float → (ℕ → Float → Float) → Float} {l : List ℕ} {m : ℕ} (stays : Bool) (v : ℕ) {r : ℕ} → r ≡ cond stays (m + 1) m
+listed-kept : {area : ℕ} {walk : Float → (ℕ → Float → Float) → Float} {l : List ℕ} {m : ℕ} (stays : Bool) (v : ℕ) {r : ℕ} → r ≡ cond stays (m + 1) m
     → Listed area walk l m → m < length l → v < area → Listed area (λ z g. cond stays (g v (walk z g)) (walk z g)) (set l m v) r
 listed-kept {area} {walk} {l} {m} true v e w h p =
     rw e
@@ -136,7 +136,7 @@ place-below area c {o} {l} p h =
     let s : c * area + o < (c + 1) * area = pair-lt q p in
     (omega arith, omega arith)
 
-pub slot-place : (n c j k : ℕ) → c * (n * n) + (j * n + k) ≡ slot n c j k
+slot-place : (n c j k : ℕ) → c * (n * n) + (j * n + k) ≡ slot n c j k
 slot-place n c j k = omega (arith, add-mul (c * n) j n, mul-assoc c n n)
 
 part-place : (n c j k : ℕ) (l : List Float) → j < n → k < n → at (part (n * n) c l) (j * n + k) ≡ at l (slot n c j k)

@@ -11,8 +11,8 @@ use Rattle.phonon.specs.Number.{f0, fold}
 use Rattle.phonon.specs.Sets.{slot}
 use Rattle.phonon.proofs.Laws.{pair-lt}
 use Rattle.imag_self_energy.specs.declared.Shared.{Shared}
-use Rattle.imag_self_energy.specs.Bands.{bandAt, columnSum, bandTotal, Within}
-use Rattle.imag_self_energy.proofs.Laws.{at-end}
+use Rattle.imag_self_energy.specs.Bands.{bandAt, columnSum, bandTotal}
+use Rattle.imag_self_energy.proofs.Laws.{Within, at-end}
 
 -- slot (b, j, k) of n bands lies below l, and so do the numbers on the way to it
 pub record SlotIn (n b j k l : ℕ) : Type 0 where

@@ -1,5 +1,5 @@
 -- The totals as the loops work them out: from the bands of the later legs, held with their occupations, and from block c of the flags and weights.
-use Prim.Native.Nat.{ℕ, _+_, _*_, _<_, _≤_}
+use Prim.Native.Nat.{ℕ, _*_, _≤_}
 use mathlib.Core.Path.{_≡_}
 use mathlib.Core.Bool.{_&&_, cond}
 use mathlib.Core.List.{List}
@@ -12,20 +12,11 @@ use Rattle.phonon.specs.Number.{_⊕_, f0, at, fold}
 use Rattle.phonon.specs.Sets.{slot}
 use Rattle.phonon.specs.Limits.{entriesOf}
 use Rattle.phonon.specs.ImagSelfEnergy.{contribution}
-use Rattle.funcs.specs.Occupation.{marked}
 use Rattle.imag_self_energy.specs.declared.Shared.{Shared}
 
 -- how many bands the arrays of the later legs hold
 abbrev pub mostBands : ℕ
 mostBands = 24
-
--- set_occupations, for one band
-unfoldable pub bandOf : Float → Float → Float → Band
-bandOf temperature cutoff f = record { frequency = f; occupation = marked temperature cutoff f }
-
--- the first n of an array are the bands of frequencies f 0, .., f (n - 1)
-pub record Held (temperature cutoff : Float) (f : ℕ → Float) (n : ℕ) (bands : List Band) : Type 0 where
-  pub held : (i : ℕ) → i < n → (d : Band) → getD bands i d ≡ bandOf temperature cutoff (f i)
 
 -- entry i of an array of bands
 abbrev pub bandAt : List Band → ℕ → Band
@@ -51,13 +42,6 @@ columnSum h n c b seconds flags first second strengths k q sum =
 unfoldable pub bandTotal : Shared → ℕ → ℕ → ℕ → List Band → List Band → List ℕ → List Float → List Float → List Float → Float
 bandTotal h n c b seconds thirds flags first second strengths =
     fold n f0 (λ k. columnSum h n c b seconds flags first second strengths k (bandAt thirds k))
-
--- block c of the flags g and the weights x and y, and block b of the strengths v, of area entries each, lie within the slices
-pub record Within (area c b : ℕ) (g : List ℕ) (x y v : List Float) : Type 0 where
-  pub flags : (c + 1) * area ≤ length g
-  pub first : (c + 1) * area ≤ length x
-  pub second : (c + 1) * area ≤ length y
-  pub strengths : (b + 1) * area ≤ length v
 
 -- flags g, weights x and y and strengths v have their lengths, of n bands and F first bands, as the weights' form asks
 pub record Sized (w : Weights) (n F : ℕ) (g : List ℕ) (x y v : List Float) : Type 0 where

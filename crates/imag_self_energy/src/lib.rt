@@ -10,6 +10,7 @@ use crate::check::check;
 use crate::listed::fill_lists;
 use crate::occupations::occupations;
 use crate::plain::fill_plain;
+use common::float_of;
 use phonon::Answer;
 use phonon::Band;
 use phonon::Bath;
@@ -58,8 +59,8 @@ pub fn write_totals(
     totals: &mut [f64],
 )
     requires { ⌜ Sized weights bands (length (now totals)) (now flags) (now first) (now second) (now strengths)
-        × (index (int triplet 1) * bands + bands ≤ length (now frequencies))
-        × (index (int triplet 2) * bands + bands ≤ length (now frequencies)) ⌝ }
+        × ((index (int triplet 1) + 1) * bands ≤ length (now frequencies))
+        × ((index (int triplet 2) + 1) * bands ≤ length (now frequencies)) ⌝ }
     ensures { λ _. ⌜ now (totals .exit) ≡ Ise.totals (length (now (totals .entry)))
         (record {
           weights = weights;
@@ -99,7 +100,7 @@ pub fn write_totals(
     let h = Shared {
         temperature: temperature,
         cutoff: cutoff,
-        weight: std::num::nearest_i64_to_f64(weight),
+        weight: float_of(weight),
     };
     if bands <= 6 {
         fill_plain(

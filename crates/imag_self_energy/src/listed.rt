@@ -368,6 +368,7 @@ fn fill_few(
     );
 }
 
+// Of at most 24 bands.
 fn fill_many(
     h: Shared,
     weights: Weights,

@@ -1,11 +1,10 @@
 -- An accepted list, triplet by triplet: what is worked after t of them, and that it is the definition's when all are.
 use Prim.Native.Nat.{ℕ, zero, suc, _+_, _-_, _*_, _<_, _≤_}
-use native.Mathlib.Nat.{zero-mul, suc-mul, mul-le-mul-right}
+use native.Mathlib.Nat.{zero-mul, suc-mul}
 use native.Mathlib.Numerals.{add-one}
 use native.Mathlib.Omega.{arith}
 use mathlib.Core.Path.{_≡_, refl, sym, ap, ap₂, _∙_}
 use mathlib.Core.List.{List, [], _∷_, _++_, append-assoc}
-use lib.Dec.{leb}
 use borrow.Author.Tests.{leb-true, eqb-true}
 use lib.IntN.{ℤ, pos}
 use lib.Ieee.{Float}
@@ -19,9 +18,9 @@ use Rattle.phonon.specs.Limits.{listOk, workLength, sizesOf}
 use Rattle.phonon.specs.Interaction.{strengths, listStrengths}
 use Rattle.phonon.specs.Refusal.{measuresOk, tableLengths, bufferLengths, sizes, listLengthsOk, tripletRefusal, listRefusal}
 use Rattle.phonon.specs.Doors.{cleared}
-use Rattle.phonon.proofs.Accepted.{and-both, all-first, all-append, passed}
+use Rattle.phonon.proofs.Accepted.{and-both, all-first, all-append, holds, measured-in, passed}
 use Rattle.phonon.proofs.Laws.{fold-step}
-use Rattle.phonon.proofs.Shares.{list-share}
+use Rattle.phonon.proofs.Shares.{part-fits, list-share}
 
 -- ---- what is known of an accepted list
 
@@ -38,18 +37,15 @@ list-facts s e =
     let a = passed _ _ (omega arith) e in
     let b = passed _ _ (omega arith) (a .1) in
     let i = and-both (measuresOk (s .tables .measures)) (listOk (s .list)) (a .0) in
-    let j = and-both (leb 1 (s .list)) _ (i .1) in
     let k = all-first _ _ (b .0) in
     let l = all-append (tableLengths (s .tables) (sizes (s .tables))) _ (k .1) in
-    let f = all-first _ _ (l .1) in
-    let g = all-first _ _ (f .1) in
-    let h = all-first _ _ (g .1) in
+    let h = holds _ (l .1) in
     record {
-      some = leb-true _ _ (j .0);
+      some = measured-in _ _ (s .list) (i .1) .0;
       triplets = omega (arith, eqb-true (length (s .triplets)) (3 * s .list) (k .0));
-      flags = eqb-true _ _ (f .0);
-      strengths = eqb-true _ _ (g .0);
-      work = leb-true _ _ (h .0);
+      flags = eqb-true _ _ (h .0);
+      strengths = eqb-true _ _ (h .1 .0);
+      work = leb-true _ _ (h .1 .1 .0);
     }
 
 -- three entries, one by one
@@ -92,12 +88,6 @@ pub record Worked (s : ListSet) (t : ℕ) (v w : List Float) : Type 0 where
   pub left : drop (t * slots (s .tables .measures)) v ≡ drop (t * slots (s .tables .measures)) (s .strengths)
   pub work : w ≡ clearedAfter t (s .tables .measures) (s .work)
 
--- room for part t of m parts of n entries
-part-fits : (n m t : ℕ) → t < m → t * n + n ≤ m * n
-part-fits n m t h =
-    let a : suc t * n ≤ m * n = mul-le-mul-right n h in
-    let b : suc t * n ≡ t * n + n = suc-mul t n in omega arith
-
 pub worked-none : (s : ListSet) → Worked s 0 (s .strengths) (s .work)
 unfolding fold
 worked-none s = let z : 0 * slots (s .tables .measures) ≡ 0 = zero-mul _ in record { size = refl; done = rw z refl; left = refl; work = refl }
@@ -118,7 +108,7 @@ module _ (s : ListSet) (e : listRefusal s ≡ 0) where
       (sym (take-all (s .list * slots m) v (omega (arith, k .size, facts .strengths))) ∙ k .done, k .work ∙ cleared-some (s .list) m (s .work) (facts .some))
 
   pub points-fit : (t : ℕ) → t < s .list → t * 3 + 3 ≤ length (s .triplets)
-  points-fit t h = omega (arith, part-fits 3 (s .list) t h, facts .triplets)
+  points-fit t h = omega (arith, part-fits 3 h, facts .triplets)
 
   -- triplet t, with n slots to a part
   module _ (n : ℕ) (en : n ≡ slots m) (t : ℕ) (h : t < s .list) where
@@ -131,7 +121,7 @@ module _ (s : ListSet) (e : listRefusal s ≡ 0) where
 
     -- a slice of the list has room for it
     fits : {A : Type 0} (l : List A) → length l ≡ s .list * slots m → t * n + n ≤ length l
-    fits l el = omega (arith, part-fits n (s .list) t h, ap (λ j. s .list * j) en)
+    fits l el = omega (arith, part-fits n h, ap (λ j. s .list * j) en)
 
     pub flags-fit : t * n + n ≤ length (s .flags)
     flags-fit = fits (s .flags) (facts .flags)

@@ -1,5 +1,5 @@
 -- What the sum requires of an accepted joined set, and what the door leaves of a set that is refused and of one that is accepted.
-use Prim.Native.Nat.{ℕ, _+_, _*_, _≤_}
+use Prim.Native.Nat.{ℕ, _≤_}
 use native.Mathlib.Omega.{arith}
 use mathlib.Core.Path.{_≡_, refl, _∙_}
 use mathlib.Core.List.{List}
@@ -10,20 +10,19 @@ use Rattle.phonon.specs.declared.Answer.{Answer}
 use Rattle.phonon.specs.declared.Answer.the-variants.{Accepted}
 use Rattle.phonon.specs.declared.Sizes.{Sizes}
 use Rattle.phonon.specs.declared.Weights.the-variants.{PerSlot}
-use Rattle.phonon.specs.Number.{index, int}
 use Rattle.phonon.specs.Sets.{bandsOf, slots, JoinedSet, ofJoined}
 use Rattle.phonon.specs.Limits.{sizesOf, entriesOf}
 use Rattle.phonon.specs.Interaction.{strengths}
 use Rattle.phonon.specs.ImagSelfEnergy.{totals, sumJoined}
 use Rattle.phonon.specs.Refusal.{tableLengths, bufferLengths, sizes, joinedLengthsOk, tripletRefusal, joinedRefusal}
 use Rattle.phonon.specs.Doors.{cleared, answerFor, JoinedOutcome, joinedWith, joinedLeaves, joinedOutcome}
-use Rattle.phonon.proofs.Accepted.{all-first, all-append, passed}
+use Rattle.phonon.proofs.Accepted.{all-append, holds, passed}
 use Rattle.phonon.proofs.Shares.{tripletOf, joined-share}
 use Rattle.refusals.specs.declared.Checked.{Checked}
 use Rattle.refusals.specs.declared.Checked.the-variants.{Bad}
 use Rattle.refusals.specs.Answers.{checkedOf, answerOf}
 use Rattle.refusals.proofs.AnswerLaws.{turned-back}
-use Rattle.real_to_normal.proofs.AcceptedLaws.{facts, frequency-fits}
+use Rattle.real_to_normal.proofs.AcceptedLaws.{facts}
 use Rattle.imag_self_energy.specs.Bands.{Sized}
 
 -- the weights and the totals have their lengths
@@ -39,10 +38,8 @@ lengths s e =
     let b = passed _ _ (omega arith) (a .1) in
     let k = all-append (tableLengths (s .tables) (sizes (s .tables))) _ (b .0) in
     let l = all-append (bufferLengths (sizes (s .tables) .slots) (sizes (s .tables)) (length (s .flags)) (length (s .strengths)) (length (s .work))) _ (k .1) in
-    let f = all-first _ _ (l .1) in
-    let g = all-first _ _ (f .1) in
-    let h = all-first _ _ (g .1) in
-    record { first = eqb-true _ _ (f .0); second = eqb-true _ _ (g .0); totals = eqb-true _ _ (h .0) }
+    let h = holds _ (l .1) in
+    record { first = eqb-true _ _ (h .0); second = eqb-true _ _ (h .1 .0); totals = eqb-true _ _ (h .1 .1 .0) }
 
 module _ (s : JoinedSet) (e : joinedRefusal s ≡ 0) where
   abbrev share : tripletRefusal (tripletOf s) ≡ 0
@@ -65,9 +62,6 @@ module _ (s : JoinedSet) (e : joinedRefusal s ≡ 0) where
         second = rw (n .totals) q;
         strengths = rw (n .totals) (h ∙ a .strengths);
       }
-
-  pub reached : (k : ℕ) → index (int (s .triplet) k) * bandsOf (s .tables .measures) + bandsOf (s .tables .measures) ≤ length (s .tables .phonons .frequencies)
-  reached k = omega (arith, frequency-fits (tripletOf s) share k)
 
   pub accepted : {v u w : List Float} → v ≡ strengths (ofJoined s) (s .strengths) → u ≡ totals (length (s .totals)) (sumJoined s) (s .bath .temperature) v → w ≡ cleared (s .tables .measures) (s .work)
       → _≡_ {A = JoinedOutcome} (record { answer = Accepted; strengths = v; totals = u; work = w }) (joinedOutcome s)

@@ -1,1 +1,2 @@
+-- The laws that belong to no one function.
 pub mod JoinedLaws

@@ -3,8 +3,8 @@ use Prim.Native.Nat.{ℕ, zero, suc, _+_, _-_, _*_, _<_, _≤_}
 use native.Mathlib.Omega.{arith}
 use native.Mathlib.Decide.{decLt}
 use native.Mathlib.Numerals.{add-one}
-use mathlib.Core.Path.{_≡_, refl, sym, ap, _∙_, subst}
-use mathlib.Core.Bool.{Bool, true, false, _&&_, cond, and-false}
+use mathlib.Core.Path.{_≡_, refl, sym, ap, _∙_}
+use mathlib.Core.Bool.{Bool, true, false, _&&_, cond, and-true, and-false, and-assoc}
 use mathlib.Core.List.{List, [], _∷_, _++_}
 use borrow.Author.Tests.{leb-true, eqb-true}
 use lib.Dec.{leb}
@@ -12,7 +12,7 @@ use lib.IntN.{ℤ, pos, negsuc}
 use lib.ListN.{length}
 use Rattle.phonon.specs.declared.Measures.{Measures}
 use Rattle.phonon.specs.Number.{index, int}
-use Rattle.phonon.specs.Tests.{allTrueAfter, allTrue, everyBelow, within, allWithin}
+use Rattle.phonon.specs.Tests.{allTrueAfter, allTrue, everyBelow, measured, within, allWithin}
 use Rattle.phonon.specs.Sets.{Tables, bandsOf, TripletSet}
 use Rattle.phonon.specs.Limits.{workLength, rowsOf, sizesOf}
 use Rattle.phonon.specs.Refusal.{measuresOk, tableLengths, bufferLengths, sizes, tripletLengthsOk, pointsOk, rangesOk, tableIndicesOk, indicesOk, Test, firstFailed, tripletRefusal}
@@ -26,29 +26,40 @@ and-both false b e = absurd (let z : _≡_ {A = ℕ} 0 1 = cc in omega arith)
 pub both-and : {a b : Bool} → a ≡ true → b ≡ true → a && b ≡ true
 both-and p q = rw (p, q)
 
-after-both : (a : Bool) (bs : List Bool) → allTrueAfter a bs ≡ true → (a ≡ true) × (allTrue bs ≡ true)
+after-is : (a : Bool) (bs : List Bool) → allTrueAfter a bs ≡ a && allTrue bs
 unfolding allTrueAfter allTrue
-after-both a [] e = (e, refl)
-after-both a (b ∷ bs) e =
-    let h = after-both (a && b) bs e in
-    let k = and-both a b (h .0) in
-    (k .0, subst (λ x. allTrueAfter x bs ≡ true) (h .0 ∙ sym (k .1)) e)
+after-is a [] = sym (and-true a)
+after-is a (b ∷ bs) = after-is (a && b) bs ∙ and-assoc a b (allTrue bs) ∙ ap (a &&_) (sym (after-is b bs))
+
+pub all-is : (b : Bool) (bs : List Bool) → allTrue (b ∷ bs) ≡ b && allTrue bs
+unfolding allTrue
+all-is b bs = after-is b bs
+
+pub all-append-is : (cs bs : List Bool) → allTrue (cs ++ bs) ≡ allTrue cs && allTrue bs
+unfolding allTrue
+all-append-is [] bs = refl
+all-append-is (c ∷ cs) bs =
+    all-is c (cs ++ bs) ∙ ap (c &&_) (all-append-is cs bs) ∙ sym (and-assoc c (allTrue cs) (allTrue bs)) ∙ ap (_&& allTrue bs) (sym (all-is c cs))
 
 pub all-first : (b : Bool) (bs : List Bool) → allTrue (b ∷ bs) ≡ true → (b ≡ true) × (allTrue bs ≡ true)
-unfolding allTrue
-all-first b bs e = after-both b bs e
+all-first b bs e = and-both b (allTrue bs) (sym (all-is b bs) ∙ e)
 
 pub all-append : (cs bs : List Bool) → allTrue (cs ++ bs) ≡ true → (allTrue cs ≡ true) × (allTrue bs ≡ true)
-unfolding allTrue allTrueAfter
-all-append [] bs e = (refl, e)
-all-append (a ∷ cs) bs e =
-    let h = all-first a (cs ++ bs) e in
-    let k = all-append cs bs (h .1) in
-    (after-from a cs (h .0) (k .0), k .1)
-  where
-    after-from : (a : Bool) (cs : List Bool) → a ≡ true → allTrue cs ≡ true → allTrueAfter a cs ≡ true
-    after-from a [] p q = p
-    after-from a (b ∷ bs) p q = subst (λ x. allTrueAfter (x && b) bs ≡ true) (sym p) q
+all-append cs bs e = and-both (allTrue cs) (allTrue bs) (sym (all-append-is cs bs) ∙ e)
+
+-- each test of a list, one by one
+abbrev pub Holds : List Bool → Type 0
+Holds [] = Unit
+Holds (b ∷ bs) = (b ≡ true) × Holds bs
+
+pub holds : (bs : List Bool) → allTrue bs ≡ true → Holds bs
+holds [] e = tt
+holds (b ∷ bs) e = let h = all-first b bs e in (h .0, holds bs (h .1))
+
+pub all-hold : (bs : List Bool) → Holds bs → allTrue bs ≡ true
+unfolding allTrue
+all-hold [] h = refl
+all-hold (b ∷ bs) h = all-is b bs ∙ both-and (h .0) (all-hold bs (h .1))
 
 pub every-at : (p : ℕ → Bool) (n k : ℕ) → everyBelow p n ≡ true → k < n → p k ≡ true
 unfolding everyBelow
@@ -85,6 +96,10 @@ every-bad p (suc n) k l e = go (decLt k n) (λ m. every-bad p n k m e)
     go (yes m) f = rw (f m)
     go (no m) f = let q : n ≡ k = omega arith in rw (ap p q ∙ e) (and-false (everyBelow p n))
 
+-- the bounds that a measure's test shows
+pub measured-in : (low high n : ℕ) → measured low high n ≡ true → (low ≤ n) × (n ≤ high)
+measured-in low high n e = let h = and-both (leb low n) (leb n high) e in (leb-true low n (h .0), leb-true n high (h .1))
+
 -- an entry of a table whose entries are all from 0 to below n, as an index
 pub index-below : (n : ℕ) (l : List ℤ) → 1 ≤ n → allWithin (pos 0) (pos (n - 1)) l ≡ true → (k : ℕ) → k < length l → index (int l k) < n
 unfolding allWithin within
@@ -93,6 +108,16 @@ index-below n l h e k m = go (int l k) (every-at (λ i. within (pos 0) (pos (n -
     go : (z : ℤ) → within (pos 0) (pos (n - 1)) z ≡ true → index z < n
     go (pos i) f = omega (arith, leb-true i (n - 1) (and-both (leb 0 i) (leb i (n - 1)) f .1))
     go (negsuc i) f = h
+
+-- ---- the first test that fails
+
+pub pass : (n : ℕ) (ts : List Test) {b : Bool} → b ≡ true → firstFailed (record { number = n; good = b } ∷ ts) ≡ firstFailed ts
+unfolding firstFailed
+pass n ts e = rw e
+
+pub stop : (n : ℕ) (ts : List Test) {b : Bool} → b ≡ false → firstFailed (record { number = n; good = b } ∷ ts) ≡ n
+unfolding firstFailed
+stop n ts e = rw e
 
 -- the first of the tests of a refusal that is none, and the rest
 pub passed : (t : Test) (ts : List Test) → 0 < t .number → firstFailed (t ∷ ts) ≡ 0 → (t .good ≡ true) × (firstFailed ts ≡ 0)
@@ -105,7 +130,7 @@ passed t ts l = go (t .good)
 
 -- ---- the facts of accepted tables
 
--- the measures are within their limits; only what the work needs of them is named
+-- the measures are within their limits
 pub record Measured (m : Measures) : Type 0 where
   pub atoms : 1 ≤ m .atoms
   pub atoms-most : m .atoms ≤ 8
@@ -121,27 +146,23 @@ pub record Measured (m : Measures) : Type 0 where
 pub measured-facts : (m : Measures) → measuresOk m ≡ true → Measured m
 unfolding measuresOk
 measured-facts m e =
-    let a = all-first _ _ e in
-    let b = all-first _ _ (a .1) in
-    let c = all-first _ _ (b .1) in
-    let d = all-first _ _ (c .1) in
-    let f = all-first _ _ (d .1) in
-    let pa = and-both _ _ (a .0) in
-    let pb = and-both _ _ (b .0) in
-    let pc = and-both _ _ (c .0) in
-    let pd = and-both _ _ (d .0) in
-    let pf = and-both _ _ (f .0) in
+    let h = holds _ e in
+    let a = measured-in _ _ (m .atoms) (h .0) in
+    let b = measured-in _ _ (m .supercell) (h .1 .0) in
+    let c = measured-in _ _ (m .first) (h .1 .1 .0) in
+    let d = measured-in _ _ (m .grid) (h .1 .1 .1 .0) in
+    let f = measured-in _ _ (m .vectors) (h .1 .1 .1 .1 .0) in
     record {
-      atoms = leb-true _ _ (pa .0);
-      atoms-most = leb-true _ _ (pa .1);
-      supercell = leb-true _ _ (pb .0);
-      supercell-most = leb-true _ _ (pb .1);
-      first = leb-true _ _ (pc .0);
-      first-most = leb-true _ _ (pc .1);
-      grid = leb-true _ _ (pd .0);
-      grid-most = leb-true _ _ (pd .1);
-      vectors = leb-true _ _ (pf .0);
-      vectors-most = leb-true _ _ (pf .1);
+      atoms = a .0;
+      atoms-most = a .1;
+      supercell = b .0;
+      supercell-most = b .1;
+      first = c .0;
+      first-most = c .1;
+      grid = d .0;
+      grid-most = d .1;
+      vectors = f .0;
+      vectors-most = f .1;
     }
 
 -- each slice has its length
@@ -162,31 +183,20 @@ pub record TableSizes (t : Tables) : Type 0 where
 pub size-facts : (t : Tables) → allTrue (tableLengths t (sizes t)) ≡ true → TableSizes t
 unfolding tableLengths sizesOf
 size-facts t e =
-    let a = all-first _ _ e in
-    let b = all-first _ _ (a .1) in
-    let c = all-first _ _ (b .1) in
-    let d = all-first _ _ (c .1) in
-    let f = all-first _ _ (d .1) in
-    let g = all-first _ _ (f .1) in
-    let h = all-first _ _ (g .1) in
-    let i = all-first _ _ (h .1) in
-    let j = all-first _ _ (i .1) in
-    let k = all-first _ _ (j .1) in
-    let l = all-first _ _ (k .1) in
-    let m = all-first _ _ (l .1) in
+    let h = holds _ e in
     record {
-      addresses = eqb-true _ _ (a .0);
-      vectors = eqb-true _ _ (b .0);
-      multiplicity = eqb-true _ _ (c .0);
-      p2s = eqb-true _ _ (d .0);
-      s2p = eqb-true _ _ (f .0);
-      masses = eqb-true _ _ (g .0);
-      bands = eqb-true _ _ (h .0);
-      frequencies = eqb-true _ _ (i .0);
-      eigenvectors = eqb-true _ _ (j .0);
-      shortest = eqb-true _ _ (k .0);
-      nonzero = eqb-true _ _ (l .0);
-      constants = eqb-true _ _ (m .0);
+      addresses = eqb-true _ _ (h .0);
+      vectors = eqb-true _ _ (h .1 .0);
+      multiplicity = eqb-true _ _ (h .1 .1 .0);
+      p2s = eqb-true _ _ (h .1 .1 .1 .0);
+      s2p = eqb-true _ _ (h .1 .1 .1 .1 .0);
+      masses = eqb-true _ _ (h .1 .1 .1 .1 .1 .0);
+      bands = eqb-true _ _ (h .1 .1 .1 .1 .1 .1 .0);
+      frequencies = eqb-true _ _ (h .1 .1 .1 .1 .1 .1 .1 .0);
+      eigenvectors = eqb-true _ _ (h .1 .1 .1 .1 .1 .1 .1 .1 .0);
+      shortest = eqb-true _ _ (h .1 .1 .1 .1 .1 .1 .1 .1 .1 .0);
+      nonzero = eqb-true _ _ (h .1 .1 .1 .1 .1 .1 .1 .1 .1 .1 .0);
+      constants = eqb-true _ _ (h .1 .1 .1 .1 .1 .1 .1 .1 .1 .1 .1 .0);
     }
 
 -- each index is in its range
@@ -199,11 +209,8 @@ pub record Indexed (t : Tables) : Type 0 where
 pub index-facts : (t : Tables) → tableIndicesOk t ≡ true → Indexed t
 unfolding tableIndicesOk
 index-facts t e =
-    let a = all-first _ _ e in
-    let b = all-first _ _ (a .1) in
-    let c = all-first _ _ (b .1) in
-    let d = all-first _ _ (c .1) in
-    record { p2s = a .0; s2p = b .0; bands = c .0; ranges = d .0 }
+    let h = holds _ e in
+    record { p2s = h .0; s2p = h .1 .0; bands = h .1 .1 .0; ranges = h .1 .1 .1 .0 }
 
 -- an accepted set of one triplet
 pub record Accepted (s : TripletSet) : Type 0 where
@@ -222,16 +229,14 @@ accepted-facts s e =
     let b = passed _ _ (omega arith) (a .1) in
     let c = passed _ _ (omega arith) (b .1) in
     let k = all-append (tableLengths (s .tables) (sizes (s .tables))) _ (b .0) in
-    let f = all-first _ _ (k .1) in
-    let g = all-first _ _ (f .1) in
-    let h = all-first _ _ (g .1) in
+    let h = holds _ (k .1) in
     let i = and-both _ _ (c .0) in
     record {
       measured = measured-facts (s .tables .measures) (a .0);
       sized = size-facts (s .tables) (k .0);
       indexed = index-facts (s .tables) (i .1);
       points = i .0;
-      flags = eqb-true _ _ (f .0);
-      strengths = eqb-true _ _ (g .0);
-      work = leb-true _ _ (h .0);
+      flags = eqb-true _ _ (h .0);
+      strengths = eqb-true _ _ (h .1 .0);
+      work = leb-true _ _ (h .1 .1 .0);
     }

@@ -172,7 +172,7 @@ phasesOk t =
     ∷ everyBelow (λ o. prePhasesOk (t .tables) (exchanged o (legQ t))) (orderCount (t .tables .symmetry))
     ∷ [])
 
--- ---- the four doors
+-- ---- the four doors: the tests of each, in the order of their numbers
 
 -- a number and its test
 pub record Test : Type 0 where
@@ -184,10 +184,9 @@ unfoldable pub firstFailed : List Test → ℕ
 firstFailed [] = 0
 firstFailed (t ∷ ts) = cond (t .good) (firstFailed ts) (t .number)
 
-unfoldable pub tripletRefusal : TripletSet → ℕ
-tripletRefusal s =
-    firstFailed
-    (record { number = 1; good = measuresOk (s .tables .measures) }
+abbrev pub tripletTests : TripletSet → List Test
+tripletTests s =
+    record { number = 1; good = measuresOk (s .tables .measures) }
     ∷ record { number = 2; good = tripletLengthsOk s }
     ∷ record { number = 3; good = indicesOk (s .tables) (s .triplet) }
     ∷ record { number = 4; good = tablesFinite (s .tables) }
@@ -195,12 +194,14 @@ tripletRefusal s =
     ∷ record { number = 6; good = massesOk (s .tables .crystal .masses) }
     ∷ record { number = 7; good = cutoffOk (s .tables .settings .cutoff) }
     ∷ record { number = 9; good = phasesOk (ofTriplet s) }
-    ∷ [])
+    ∷ []
 
-unfoldable pub listRefusal : ListSet → ℕ
-listRefusal s =
-    firstFailed
-    (record { number = 1; good = measuresOk (s .tables .measures) && listOk (s .list) }
+unfoldable pub tripletRefusal : TripletSet → ℕ
+tripletRefusal s = firstFailed (tripletTests s)
+
+abbrev pub listTests : ListSet → List Test
+listTests s =
+    record { number = 1; good = measuresOk (s .tables .measures) && listOk (s .list) }
     ∷ record { number = 2; good = listLengthsOk s }
     ∷ record { number = 3; good = indicesOk (s .tables) (s .triplets) }
     ∷ record { number = 4; good = tablesFinite (s .tables) }
@@ -208,23 +209,27 @@ listRefusal s =
     ∷ record { number = 6; good = massesOk (s .tables .crystal .masses) }
     ∷ record { number = 7; good = cutoffOk (s .tables .settings .cutoff) }
     ∷ record { number = 9; good = everyBelow (λ t. phasesOk (ofList s t)) (s .list) }
-    ∷ [])
+    ∷ []
 
-unfoldable pub totalsRefusal : TotalsSet → ℕ
-totalsRefusal s =
-    firstFailed
-    (record { number = 1; good = totalsMeasuresOk (s .measures) }
+unfoldable pub listRefusal : ListSet → ℕ
+listRefusal s = firstFailed (listTests s)
+
+abbrev pub totalsTests : TotalsSet → List Test
+totalsTests s =
+    record { number = 1; good = totalsMeasuresOk (s .measures) }
     ∷ record { number = 2; good = totalsLengthsOk s }
     ∷ record { number = 3; good = pointsOk (s .measures .grid) (s .triplet) }
     ∷ record { number = 4; good = totalsFinite s }
     ∷ record { number = 7; good = cutoffOk (s .cutoff) }
     ∷ record { number = 8; good = bathOk (s .bath) }
-    ∷ [])
+    ∷ []
 
-unfoldable pub joinedRefusal : JoinedSet → ℕ
-joinedRefusal s =
-    firstFailed
-    (record { number = 1; good = measuresOk (s .tables .measures) }
+unfoldable pub totalsRefusal : TotalsSet → ℕ
+totalsRefusal s = firstFailed (totalsTests s)
+
+abbrev pub joinedTests : JoinedSet → List Test
+joinedTests s =
+    record { number = 1; good = measuresOk (s .tables .measures) }
     ∷ record { number = 2; good = joinedLengthsOk s }
     ∷ record { number = 3; good = indicesOk (s .tables) (s .triplet) }
     ∷ record { number = 4; good = tablesFinite (s .tables) && bathFinite (s .bath) (s .first) (s .second) }
@@ -233,4 +238,7 @@ joinedRefusal s =
     ∷ record { number = 7; good = cutoffOk (s .tables .settings .cutoff) }
     ∷ record { number = 8; good = bathOk (s .bath) }
     ∷ record { number = 9; good = phasesOk (ofJoined s) }
-    ∷ [])
+    ∷ []
+
+unfoldable pub joinedRefusal : JoinedSet → ℕ
+joinedRefusal s = firstFailed (joinedTests s)

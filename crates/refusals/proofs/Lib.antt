@@ -1,3 +1,4 @@
+-- The laws that belong to no one function.
 pub mod MeasureLaws
 pub mod PhaseLaws
 pub mod TableLaws

@@ -9,9 +9,8 @@ use Rattle.phonon.specs.declared.Form.{Form}
 use Rattle.phonon.specs.declared.Sizes.{Sizes}
 use Rattle.phonon.specs.Limits.{listOk, sizesOf}
 use Rattle.phonon.specs.Refusal.{measuresOk}
-use Rattle.phonon.proofs.Accepted.{measured-facts}
+use Rattle.phonon.proofs.Accepted.{measured-in, measured-facts}
 use Rattle.checks.specs.Modest.{Modest}
-use Rattle.checks.proofs.Laws.{measured-in}
 use Rattle.refusals.specs.declared.Measured.the-variants.{Within, Beyond}
 use Rattle.refusals.specs.Answers.{withSizes, measuredOf}
 

@@ -1,4 +1,4 @@
--- The phases of one entry of the multiplicities, and of one leg.
+-- The phases of one entry of the multiplicities, and of one leg; orders of the legs, and triplets of a list.
 use Prim.Native.Nat.{ℕ, zero, suc, _+_, _*_, _<_, _≤_}
 use native.Mathlib.Omega.{arith}
 use mathlib.Core.Bool.{Bool, _&&_}
@@ -16,8 +16,7 @@ use Rattle.phonon.specs.RealToReciprocal.{qAt, phase, prePhase, anchorVector}
 use Rattle.phonon.specs.declared.Symmetry.{Symmetry}
 use Rattle.phonon.specs.declared.Symmetry.the-variants.{Off, Symmetrized}
 use Rattle.phonon.specs.Interaction.{orders, leg, exchanged, orderCount}
-use Rattle.real_to_reciprocal.specs.Shape.{Anchored}
-use Rattle.refusals.specs.Phases.{legPhasesFor, prePhasesFor, ordersFor, phasesFor, legsAt, Anchors, Located}
+use Rattle.refusals.specs.Phases.{legPhasesFor, prePhasesFor, ordersFor, phasesFor, legsAt, Located}
 
 module _ (q vectors : List Float) where
   -- vector i of those from `start` on
@@ -102,9 +101,6 @@ part-located {m} {triplets} {addresses} t h l =
           let e : int (part 3 t triplets) k ≡ int triplets (t * 3 + k) = getD-take 3 (drop (t * 3) triplets) k (pos 0) b ∙ getD-drop (t * 3) triplets k (pos 0) in
           rw e (h .addressed (t * 3 + k) (omega arith));
     }
-
-pub anchored : {P S : ℕ} {vectors : List Float} {multiplicity p2s : List ℤ} → Anchors P S vectors multiplicity p2s → Anchored vectors multiplicity p2s P
-anchored {S = S} h = record { supercell = S; some = h .some; atoms = h .atoms; anchors = h .anchors; ranged = h .ranged }
 
 -- the tests of the three legs and of their orders, at the q of their points
 pub phases-told : (P S : ℕ) (symmetry : Symmetry) (vectors : List Float) (multiplicity p2s : List ℤ) (w : Grid) (points : List ℤ) {a b d o : Bool} {q0 q1 q2 : List Float} {g0 g1 g2 : ℕ}

@@ -1,42 +1,26 @@
 -- phonon's tests of whole sets, from the tests of their slices; and what tables that passed them make safe to read.
-use Prim.Native.Nat.{ℕ, suc, _+_, _-_, _*_, _≤_}
+use Prim.Native.Nat.{ℕ, suc, _*_, _≤_}
 use native.Mathlib.Omega.{arith}
-use mathlib.Core.Bool.{Bool, true, false, not, _&&_}
+use mathlib.Core.Bool.{Bool, true, _&&_, and-assoc}
 use mathlib.Core.Path.{_≡_, refl, sym, ap, _∙_}
-use mathlib.Core.List.{List, [], _∷_, _++_}
-use borrow.Author.Tests.{not-true, not-false}
+use mathlib.Core.List.{List, [], _++_}
 use lib.Dec.{eqb}
 use lib.IntN.{ℤ}
 use lib.Ieee.{Float}
 use lib.ListN.{length}
 use Rattle.phonon.specs.declared.Sizes.{Sizes}
-use Rattle.phonon.specs.Tests.{allTrueAfter, allTrue, everyBelow}
+use Rattle.phonon.specs.Tests.{allTrue, everyBelow}
 use Rattle.phonon.specs.Sets.{Tables, Triplet, TripletSet, ListSet, JoinedSet, ofList}
-use Rattle.phonon.specs.Refusal.{measuresOk, tableLengths, bufferLengths, sizes, tripletLengthsOk, listLengthsOk, joinedLengthsOk, pointsOk, tableIndicesOk, indicesOk, tablesFinite, meshOk, legPhasesOk, prePhasesOk, phasesOk, Test, firstFailed}
-use Rattle.phonon.proofs.Accepted.{measured-facts, size-facts, index-facts}
+use Rattle.phonon.specs.Refusal.{measuresOk, tableLengths, bufferLengths, sizes, tripletLengthsOk, listLengthsOk, joinedLengthsOk, pointsOk, tableIndicesOk, indicesOk, tablesFinite, meshOk, legPhasesOk, prePhasesOk, phasesOk, firstFailed}
+use Rattle.phonon.proofs.Accepted.{all-is, all-append-is, measured-facts, size-facts, index-facts}
+use Rattle.real_to_reciprocal.specs.Shape.{Ranged, Anchored}
 use Rattle.real_to_reciprocal.proofs.TestLaws.{atom-below}
 use Rattle.refusals.specs.declared.Checked.the-variants.{Good, Bad}
 use Rattle.refusals.specs.Answers.{checkedOf}
 use Rattle.refusals.specs.Slices.{lengthTests, bathLengths, indicesFor, finiteFor, meshFor}
-use Rattle.refusals.specs.Phases.{legPhasesFor, prePhasesFor, ordersFor, phasesFor, legsAt, tripletFine, Anchors, Located}
+use Rattle.refusals.specs.Phases.{legPhasesFor, prePhasesFor, ordersFor, phasesFor, legsAt, tripletFine, Located}
 
--- ---- what a test that the code branches on told
-
-pub told-good : {a b : Bool} → a ≡ b → not a ≡ false → b ≡ true
-told-good e h = sym e ∙ not-false _ h
-
-pub told-bad : {a b : Bool} → a ≡ b → not a ≡ true → b ≡ false
-told-bad e h = sym e ∙ not-true _ h
-
--- ---- the first test that fails
-
-pub pass : (n : ℕ) (ts : List Test) {b : Bool} → b ≡ true → firstFailed (record { number = n; good = b } ∷ ts) ≡ firstFailed ts
-unfolding firstFailed
-pass n ts e = rw e
-
-pub stop : (n : ℕ) (ts : List Test) {b : Bool} → b ≡ false → firstFailed (record { number = n; good = b } ∷ ts) ≡ n
-unfolding firstFailed
-stop n ts e = rw e
+-- ---- what the checks answer
 
 pub refused : {k : ℕ} (n : ℕ) (z : Sizes) → k ≡ suc n → Bad (suc n) ≡ checkedOf k z
 unfolding checkedOf
@@ -45,37 +29,6 @@ refused n z e = rw e
 pub accepted : {k : ℕ} {z y : Sizes} → k ≡ firstFailed [] → z ≡ y → Good z ≡ checkedOf k y
 unfolding checkedOf firstFailed
 accepted e f = rw (e, f)
-
--- ---- lists of tests that are joined
-
-and-assoc : (a b c : Bool) → (a && b) && c ≡ a && (b && c)
-and-assoc true b c = refl
-and-assoc false b c = refl
-
-after-join : (a : Bool) (bs cs : List Bool) → allTrueAfter a (bs ++ cs) ≡ allTrueAfter (allTrueAfter a bs) cs
-unfolding allTrueAfter
-after-join a [] cs = refl
-after-join a (b ∷ bs) cs = after-join (a && b) bs cs
-
-after-and : (a : Bool) (bs : List Bool) → allTrueAfter a bs ≡ a && allTrue bs
-unfolding allTrueAfter allTrue
-after-and true [] = refl
-after-and false [] = refl
-after-and a (b ∷ bs) = after-and (a && b) bs ∙ and-assoc a b (allTrue bs) ∙ ap (λ x. a && x) (sym (after-and b bs))
-
-all-first : (a : Bool) (bs : List Bool) → allTrue (a ∷ bs) ≡ a && allTrue bs
-unfolding allTrue
-all-first a bs = after-and a bs
-
--- the lists are not empty
-all-join : (a b : Bool) (cs bs : List Bool) → allTrue ((a ∷ cs) ++ (b ∷ bs)) ≡ allTrue (a ∷ cs) && allTrue (b ∷ bs)
-unfolding allTrue
-all-join a b cs bs = after-join a cs (b ∷ bs) ∙ after-and (allTrueAfter a cs) (b ∷ bs)
-
-all-joins : (a b d : Bool) (cs bs ds : List Bool)
-    → allTrue ((a ∷ cs) ++ ((b ∷ bs) ++ (d ∷ ds))) ≡ (allTrue (a ∷ cs) && allTrue (b ∷ bs)) && allTrue (d ∷ ds)
-all-joins a b d cs bs ds =
-    all-join a b cs (bs ++ (d ∷ ds)) ∙ ap (λ x. allTrue (a ∷ cs) && x) (all-join b d bs ds) ∙ sym (and-assoc (allTrue (a ∷ cs)) (allTrue (b ∷ bs)) (allTrue (d ∷ ds)))
 
 -- ---- the tests of the tables
 
@@ -130,16 +83,19 @@ phases-are t = refl
 -- ---- tables that passed
 
 module _ (t : Tables) (within : measuresOk (t .measures) ≡ true) (sized : allTrue (tableLengths t (sizes t)) ≡ true) where
-  pub anchors : tableIndicesOk t ≡ true → Anchors (t .measures .atoms) (t .measures .supercell) (t .crystal .vectors) (t .crystal .multiplicity) (t .crystal .forces .p2s)
-  anchors indexed =
-      let m = measured-facts (t .measures) within in
+  pub ranged : tableIndicesOk t ≡ true → Ranged (t .crystal .vectors) (t .crystal .multiplicity) (t .measures .supercell * t .measures .atoms)
+  ranged indexed =
       let l = size-facts t sized in
-      let i = index-facts t indexed in
+      record { count = t .measures .vectors; room = omega (arith, l .vectors); entries = omega (arith, l .multiplicity); ranges = index-facts t indexed .ranges }
+
+  pub anchored : tableIndicesOk t ≡ true → Anchored (t .crystal .vectors) (t .crystal .multiplicity) (t .crystal .forces .p2s) (t .measures .atoms)
+  anchored indexed =
       record {
-        some = m .supercell;
-        atoms = l .p2s;
-        anchors = i .p2s;
-        ranged = record { count = t .measures .vectors; room = omega (arith, l .vectors); entries = omega (arith, l .multiplicity); ranges = i .ranges };
+        supercell = t .measures .supercell;
+        some = measured-facts (t .measures) within .supercell;
+        atoms = size-facts t sized .p2s;
+        anchors = index-facts t indexed .p2s;
+        ranged = ranged indexed;
       }
 
   pub located : (n : ℕ) (points : List ℤ) → n ≤ length points → pointsOk (t .measures .grid) points ≡ true → Located n points (t .grid .addresses)
@@ -157,9 +113,8 @@ buffersSized n t flags strengths work = allTrue (bufferLengths n (sizes t) (leng
 
 tables-buffers : (n : ℕ) (t : Tables) (flags : List ℕ) (strengths work : List Float)
     → allTrue (tableLengths t (sizes t) ++ bufferLengths n (sizes t) (length flags) (length strengths) (length work)) ≡ tablesSized t (sizes t) && buffersSized n t flags strengths work
-unfolding tableLengths bufferLengths
 tables-buffers n t flags strengths work =
-    all-join _ _ _ _ ∙ ap (λ x. x && buffersSized n t flags strengths work) (sym (lengths-are t (sizes t)))
+    all-append-is (tableLengths t (sizes t)) _ ∙ ap (_&& buffersSized n t flags strengths work) (sym (lengths-are t (sizes t)))
 
 pub triplet-sized : (s : TripletSet) {z : Sizes} {a b : Bool} {n k : ℕ} → z ≡ sizes (s .tables) → length (s .strengths) ≡ n → length (s .work) ≡ k
     → a ≡ tablesSized (s .tables) z → b ≡ allTrue (bufferLengths (z .slots) z (length (s .flags)) n k) → a && b ≡ tripletLengthsOk s
@@ -174,14 +129,18 @@ list-sized s e p q f g =
     let d : Bool = eqb (length (s .triplets)) (3 * s .list) in
     rw (f, g, e, sym p, sym q)
     (and-assoc d _ _
-    ∙ ap (λ x. d && x) (sym (tables-buffers (s .list * sizes (s .tables) .slots) (s .tables) (s .flags) (s .strengths) (s .work)))
-    ∙ sym (all-first d _))
+    ∙ ap (d &&_) (sym (tables-buffers (s .list * sizes (s .tables) .slots) (s .tables) (s .flags) (s .strengths) (s .work)))
+    ∙ sym (all-is d _))
 
 pub joined-sized : (s : JoinedSet) {z : Sizes} {a b d : Bool} {n j k : ℕ} → z ≡ sizes (s .tables) → length (s .strengths) ≡ n → length (s .totals) ≡ j → length (s .work) ≡ k
     → a ≡ tablesSized (s .tables) z → b ≡ allTrue (bufferLengths (z .slots) z (length (s .flags)) n k)
     → d ≡ allTrue (bathLengths (s .tables .measures) z (length (s .first)) (length (s .second)) j) → (a && b) && d ≡ joinedLengthsOk s
-unfolding joinedLengthsOk bathLengths lengthTests tableLengths bufferLengths
-joined-sized s e p r q f g h = rw (f, g, h, e, sym p, sym r, sym q) (sym (all-joins _ _ _ _ _ _))
+unfolding joinedLengthsOk bathLengths
+joined-sized s e p r q f g h =
+    let t = s .tables in
+    let b = bufferLengths (sizes t .slots) (sizes t) (length (s .flags)) (length (s .strengths)) (length (s .work)) in
+    rw (f, g, h, e, sym p, sym r, sym q, lengths-are t (sizes t))
+    (and-assoc (allTrue (tableLengths t (sizes t))) (allTrue b) _ ∙ ap (allTrue (tableLengths t (sizes t)) &&_) (sym (all-append-is b _)) ∙ sym (all-append-is (tableLengths t (sizes t)) _))
 
 -- ---- other tests that a door makes in two parts
 

@@ -1,19 +1,17 @@
 -- phonon's tests of the phases, over just the slices that each reads, and what makes their indices safe.
-use Prim.Native.Nat.{ℕ, _+_, _-_, _*_, _<_, _≤_}
-use mathlib.Core.Path.{_≡_}
-use mathlib.Core.Bool.{Bool, true}
+use Prim.Native.Nat.{ℕ, _+_, _*_, _<_, _≤_}
+use mathlib.Core.Bool.{Bool}
 use mathlib.Core.List.{List, [], _∷_}
-use lib.IntN.{ℤ, pos}
+use lib.IntN.{ℤ}
 use lib.Ieee.{Float}
 use lib.ListN.{length}
 use Rattle.phonon.specs.declared.Symmetry.{Symmetry}
 use Rattle.phonon.specs.Number.{index, int}
 use Rattle.phonon.specs.Trig.{inDomain}
-use Rattle.phonon.specs.Tests.{allTrue, everyBelow, allWithin}
+use Rattle.phonon.specs.Tests.{allTrue, everyBelow}
 use Rattle.phonon.specs.Sets.{part, Grid, Legs}
 use Rattle.phonon.specs.RealToReciprocal.{qAt, phase, prePhase, anchorVector}
 use Rattle.phonon.specs.Interaction.{exchanged, orderCount}
-use Rattle.real_to_reciprocal.specs.Shape.{Ranged}
 
 -- legPhasesOk: of each vector of the first n entries of the multiplicities, at one q
 unfoldable pub legPhasesFor : List Float → List ℤ → ℕ → List Float → Bool
@@ -47,13 +45,6 @@ abbrev pub tripletFine : ℕ → ℕ → Symmetry → Grid → List Float → Li
 tripletFine P S symmetry w vectors multiplicity p2s triplets t = phasesFor P S symmetry vectors multiplicity p2s (legsAt w (part 3 t triplets))
 
 -- ---- what makes the indices safe
-
--- p2s has an entry for each of P atoms, the number of one of S supercell atoms, which all have ranges of the vectors
-pub record Anchors (P S : ℕ) (vectors : List Float) (multiplicity p2s : List ℤ) : Type 0 where
-  pub some : 1 ≤ S
-  pub atoms : length p2s ≡ P
-  pub anchors : allWithin (pos 0) (pos (S - 1)) p2s ≡ true
-  pub ranged : Ranged vectors multiplicity (S * P)
 
 -- the first n points are grid points, each with its address
 pub record Located (n : ℕ) (points addresses : List ℤ) : Type 0 where

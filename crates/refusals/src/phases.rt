@@ -12,7 +12,7 @@ ghost use Rattle.phonon.specs.Tests.{everyBelow};
 ghost use Rattle.phonon.specs.Trig.{inDomain};
 ghost use Rattle.phonon.specs.Interaction.{orderCount};
 ghost use Rattle.real_to_reciprocal.specs.Shape.{Anchored, Ranged};
-ghost use Rattle.refusals.specs.Phases.{legPhasesFor, prePhasesFor, ordersFor, phasesFor, legsAt, tripletFine, Anchors, Located};
+ghost use Rattle.refusals.specs.Phases.{legPhasesFor, prePhasesFor, ordersFor, phasesFor, legsAt, tripletFine, Located};
 
 fn in_domain(x: f64) -> bool
     ensures { λ r. ⌜ r ≡ inDomain x ⌝ }
@@ -118,7 +118,9 @@ pub fn phases_ok(
     multiplicity: &[i64],
     p2s: &[i64],
 ) -> bool
-    requires { ⌜ Located 3 (now points) (now addresses) × Anchors atoms supercell (now vectors) (now multiplicity) (now p2s) ⌝ }
+    requires { ⌜ Located 3 (now points) (now addresses)
+        × Ranged (now vectors) (now multiplicity) (supercell * atoms)
+        × Anchored (now vectors) (now multiplicity) (now p2s) atoms ⌝ }
     ensures { λ r. ⌜ r ≡ phasesFor atoms supercell symmetry (now (vectors .entry)) (now (multiplicity .entry)) (now (p2s .entry))
         (legsAt (record { mesh = mesh; matrix = matrix; addresses = now (addresses .entry) }) (now (points .entry))) ⌝ }
 {
@@ -146,7 +148,9 @@ pub fn list_phases_ok(
     multiplicity: &[i64],
     p2s: &[i64],
 ) -> bool
-    requires { ⌜ Located (list * 3) (now triplets) (now addresses) × Anchors atoms supercell (now vectors) (now multiplicity) (now p2s) ⌝ }
+    requires { ⌜ Located (list * 3) (now triplets) (now addresses)
+        × Ranged (now vectors) (now multiplicity) (supercell * atoms)
+        × Anchored (now vectors) (now multiplicity) (now p2s) atoms ⌝ }
     ensures { λ r. ⌜ r ≡ everyBelow
         (tripletFine atoms supercell symmetry (record { mesh = mesh; matrix = matrix; addresses = now (addresses .entry) })
         (now (vectors .entry)) (now (multiplicity .entry)) (now (p2s .entry)) (now (triplets .entry))) list ⌝ }

@@ -7,7 +7,6 @@ use native.Mathlib.Omega.{arith}
 use native.Mathlib.Nat.{suc-mul, zero-mul}
 use native.Mathlib.Numerals.{add-one}
 use borrow.Author.Needs.{needs, sfits-of}
-use borrow.Author.Tests.{not-true, not-false}
 use lib.ListN.{getD}
 use lib.IntN.{ℤ, pos}
 use mir.ValLaws.{toZ-ofZ}
@@ -16,7 +15,7 @@ use Rattle.phonon.specs.Number.{int}
 use Rattle.phonon.specs.Tests.{vectorRange}
 use Rattle.checks.specs.Scan.{Passed}
 use Rattle.phonon.proofs.Laws.{pair-lt}
-use Rattle.checks.proofs.Laws.{passed-none, passed-more, passed-same, first-here, first-none}
+use Rattle.checks.proofs.Laws.{told-good, told-bad, passed-none, passed-more, passed-same, first-here, first-none}
 use Rattle.checks.proofs.first_bad_range.Statement.{statement}
 use Rattle.checks.proofs.first_bad_range.Tie as tie
 
@@ -113,7 +112,7 @@ loop-again c =
       search needs,
       l .inv .1,
       passed-same (omega arith)
-          (passed-more (l .inv .2) (entry (c .before .before .before .before)) (sym (tested (c .before)) ∙ not-false _ (c .if1 .left))),
+          (passed-more (l .inv .2) (entry (c .before .before .before .before)) (told-good (tested (c .before)) (c .if1 .left))),
     )
 
 add-j : tie.Need-add-j Inv-loop μ-loop Inv-rows μ-rows
@@ -139,7 +138,7 @@ returns c =
 returns-2 : tie.Need-returns-2 Inv-loop μ-loop Inv-rows μ-rows
 returns-2 c =
     let b = c .before .before .before .before in
-    first-here (b .before .loop .inv .2) (entry b) (sym (tested (c .before)) ∙ not-true _ (c .if1 .taken))
+    first-here (b .before .loop .inv .2) (entry b) (told-bad (tested (c .before)) (c .if1 .taken))
 
 pub first-bad-range-spec : {M : Type 1} → statement M
 first-bad-range-spec =

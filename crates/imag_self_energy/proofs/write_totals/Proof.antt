@@ -1,17 +1,15 @@
 -- After j turns the first j bands of both later legs are held; all held, and the weight cast once, the totals are the definition's.
 use Prim.Native.Nat.{_-_, _≤_, _<_}
-use mathlib.Core.Path.{_≡_, refl, sym, ap, _∙_}
+use mathlib.Core.Path.{_≡_, refl, ap, _∙_}
 use native.Mathlib.Omega.{arith}
 use borrow.Author.Needs.{needs, sfits-of}
-use lib.Ieee.{binary64, ofInt}
 use lib.ListN.{length, length-set}
 use mir.ValLaws.{toZ-ofZ}
 use mir.Syntax.{w64}
-use Rattle.phonon.specs.Number.{index, at, int, table}
+use Rattle.phonon.specs.Number.{index, float, at, int, table}
 use Rattle.phonon.specs.ImagSelfEnergy.{Sum, block, totals}
-use Rattle.planes.proofs.Products.{row-next}
-use Rattle.imag_self_energy.specs.Bands.{mostBands, Held, bandTotal}
-use Rattle.imag_self_energy.proofs.Laws.{band-made, held-none, held-step, held-part, totals-are}
+use Rattle.imag_self_energy.specs.Bands.{mostBands, bandTotal}
+use Rattle.imag_self_energy.proofs.Laws.{filled-none, filled-step, Held, band-made, held-part, totals-are}
 use Rattle.imag_self_energy.proofs.write_totals.Statement.{statement}
 use Rattle.imag_self_energy.proofs.write_totals.Tie as tie
 
@@ -72,15 +70,13 @@ index-of-requires-2 : tie.Need-index-of-requires-2 Inv-loop μ-loop
 index-of-requires-2 c κs = search needs
 
 leg-frequencies-requires : tie.Need-leg-frequencies-requires Inv-loop μ-loop
-leg-frequencies-requires c κs = rw (point1 c, sym (row-next (index (int (entry c .args .t3) 1)) (entry c .args .bands))) (entry c .pre .1)
+leg-frequencies-requires c κs = rw (point1 c) (entry c .pre .1)
 
 leg-frequencies-requires-2 : tie.Need-leg-frequencies-requires-2 Inv-loop μ-loop
-leg-frequencies-requires-2 c κs =
-    let s = entry (c .before) in
-    rw (point2 (c .before), sym (row-next (index (int (s .args .t3) 2)) (s .args .bands))) (s .pre .2)
+leg-frequencies-requires-2 c κs = rw (point2 (c .before)) (entry (c .before) .pre .2)
 
 loop-holds : tie.Need-loop-holds Inv-loop μ-loop
-loop-holds c = (omega arith, refl, refl, held-none _ _ _ _, held-none _ _ _ _)
+loop-holds c = (omega arith, refl, refl, filled-none _ _, filled-none _ _)
 
 mul-f : tie.Need-mul-f Inv-loop μ-loop
 mul-f c = omega (arith, legs-entry (c .before .before) .pre .0 .few)
@@ -125,12 +121,12 @@ loop-again c =
       omega arith,
       simp length-set (l .inv .1),
       simp length-set (l .inv .2),
-      held-step _ (l .inv .3) p (band-made _ _ _ _ (o .0)),
-      held-step _ (l .inv .4) q (band-made _ _ _ _ (o .1)),
+      filled-step _ (l .inv .3) p (band-made _ _ _ _ (o .0)),
+      filled-step _ (l .inv .4) q (band-made _ _ _ _ (o .1)),
     )
 
-nearest-i64-to-f64-requires : tie.Need-nearest-i64-to-f64-requires Inv-loop μ-loop
-nearest-i64-to-f64-requires c κs = search needs
+float-of-requires : tie.Need-float-of-requires Inv-loop μ-loop
+float-of-requires c κs = search needs
 
 fill-plain-requires : tie.Need-fill-plain-requires Inv-loop μ-loop
 fill-plain-requires c κs = legs-entry (c .before .before .before .before .before) .pre .0
@@ -139,13 +135,13 @@ fill-lists-requires : tie.Need-fill-lists-requires Inv-loop μ-loop
 fill-lists-requires c κs = legs-entry (c .before .before .before .before .before) .pre .0
 
 -- all bands are held, and the weight is cast: the sums are the definition's totals
-abbrev start : tie.After-nearest-i64-to-f64 Inv-loop μ-loop → tie.Start Inv-loop μ-loop
+abbrev start : tie.After-float-of Inv-loop μ-loop → tie.Start Inv-loop μ-loop
 start c = legs-entry (c .before .before .before)
 
 all-held :
-    (c : tie.After-nearest-i64-to-f64 Inv-loop μ-loop)
+    (c : tie.After-float-of Inv-loop μ-loop)
     → table (length (start c .args .totals .now))
-    (λ b. bandTotal (record { temperature = start c .args .temperature; cutoff = start c .args .cutoff; weight = c .nearest-i64-to-f64 .result }) (start c .args .bands) (block (start c .args .weights) b) b (c .before .before .loop .seconds) (c .before .before .loop .thirds) (start c .args .flags .now) (start c .args .first .now) (start c .args .second .now) (start c .args .strengths .now))
+    (λ b. bandTotal (record { temperature = start c .args .temperature; cutoff = start c .args .cutoff; weight = c .float-of .result }) (start c .args .bands) (block (start c .args .weights) b) b (c .before .before .loop .seconds) (c .before .before .loop .thirds) (start c .args .flags .now) (start c .args .first .now) (start c .args .second .now) (start c .args .strengths .now))
     ≡ totals (length (start c .args .totals .now)) (read (start c)) (start c .args .temperature) (start c .args .strengths .now)
 all-held c =
     let s = start c in
@@ -153,9 +149,9 @@ all-held c =
     let k = c .before .before .before in
     let all : l .j ≡ s .args .bands = omega arith in
     totals-are (read s) _ _
-    (held-part _ _ _ (rw (point1 (k .before .before)) at (k .before .leg-frequencies .ensures .0)) (rw all at (l .inv .3)))
-    (held-part _ _ _ (rw (point2 (k .before .before)) at (k .leg-frequencies2 .ensures .0)) (rw all at (l .inv .4)))
-    _ _ (c .nearest-i64-to-f64 .ensures ∙ ap (ofInt binary64) (toZ-ofZ w64 _ (s .fits .weight)))
+    (held-part _ _ _ _ _ (rw (point1 (k .before .before)) at (k .before .leg-frequencies .ensures .0)) (rw all at (l .inv .3)))
+    (held-part _ _ _ _ _ (rw (point2 (k .before .before)) at (k .leg-frequencies2 .ensures .0)) (rw all at (l .inv .4)))
+    _ _ (c .float-of .ensures ∙ ap float (toZ-ofZ w64 _ (s .fits .weight)))
 
 same-length : tie.Need-same-length Inv-loop μ-loop
 same-length c = search needs
@@ -194,7 +190,7 @@ write-totals-spec =
     add-j
     loop-less
     loop-again
-    nearest-i64-to-f64-requires
+    float-of-requires
     fill-plain-requires
     fill-lists-requires
     same-length

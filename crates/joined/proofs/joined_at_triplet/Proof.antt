@@ -7,9 +7,10 @@ use mir.Syntax.{w64}
 use Rattle.phonon.specs.Sets.{JoinedSet}
 use Rattle.phonon.specs.Limits.{sizesOf}
 use Rattle.phonon.specs.Refusal.{joinedRefusal}
-use Rattle.phonon.proofs.Shares.{joined-share}
+use Rattle.phonon.proofs.Shares.{tripletOf, joined-share}
 use Rattle.refusals.proofs.AnswerLaws.{passes}
-use Rattle.joined.proofs.JoinedLaws.{lengths, few, sized, reached, accepted, refused}
+use Rattle.real_to_normal.proofs.AcceptedLaws.{frequency-fits}
+use Rattle.joined.proofs.JoinedLaws.{lengths, few, sized, accepted, refused}
 use Rattle.joined.proofs.joined_at_triplet.Statement.{statement}
 use Rattle.joined.proofs.joined_at_triplet.Tie as tie
 
@@ -81,7 +82,8 @@ write-totals-requires c κs =
     let s = handed (entry k) in
     let e = passed k in
     let n = lengths s e in
-    (sized s e _ _ _ (search needs) (search needs) (search needs), reached s e 1, reached s e 2)
+    let fits = frequency-fits (tripletOf s) (joined-share s e) in
+    (sized s e _ _ _ (search needs) (search needs) (search needs), fits 1, fits 2)
 
 same-length : tie.Need-same-length
 same-length c = search needs

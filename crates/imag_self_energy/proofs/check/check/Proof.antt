@@ -1,15 +1,17 @@
 -- Each test is the definition's: one that passes is taken from the front of the list of tests, and the first that fails gives its number.
-use Prim.Native.Nat.{_*_}
+use Prim.Native.Nat.{ℕ, _*_}
 use mathlib.Core.Path.{_≡_, refl, sym, _∙_}
 use mathlib.Core.Bool.{true, _&&_}
 use native.Mathlib.Omega.{arith}
 use borrow.Author.Needs.{needs}
-use borrow.Author.Tests.{not-true, not-false}
+use lib.ListN.{drop}
 use Rattle.phonon.specs.Sets.{TotalsSet}
 use Rattle.phonon.specs.Tests.{allTrue, allTrueAfter}
-use Rattle.phonon.specs.Refusal.{firstFailed, totalsMeasuresOk, totalsLengthsOk, totalsFinite, totalsRefusal}
+use Rattle.phonon.specs.Refusal.{totalsMeasuresOk, totalsLengthsOk, totalsFinite, firstFailed, totalsTests, totalsRefusal}
+use Rattle.phonon.proofs.Accepted.{pass, stop}
+use Rattle.checks.proofs.Laws.{told-good, told-bad}
 use Rattle.imag_self_energy.specs.Check.{lengthTests}
-use Rattle.imag_self_energy.proofs.CheckLaws.{from2, from3, from4, from7, from8, all-tests, next, fails, turned, passed, measures-passed, measures-failed, limits}
+use Rattle.imag_self_energy.proofs.CheckLaws.{turned, handed-on, measures-passed, measures-failed, limits}
 use Rattle.imag_self_energy.proofs.check.check.Statement.{statement}
 use Rattle.imag_self_energy.proofs.check.check.Tie as tie
 
@@ -47,22 +49,31 @@ entry7 c = entry4 (c .before .before .before .before .before)
 abbrev entry8 : tie.Else4 → tie.Start
 entry8 c = entry7 (c .before .before)
 
--- ---- the tests that are left there
+-- the first n of its tests hold
+abbrev Past : tie.Start → ℕ → Type 0
+Past s n = totalsRefusal (handed s) ≡ firstFailed (drop n (totalsTests (handed s)))
+
+-- ---- the tests that are passed there
 
 measured :
     (c : tie.After-known-told)
     → (totalsMeasuresOk (entry2 c .args .m) ≡ true) × (c .before .bands .given .0 .0 ≡ 3 * entry2 c .args .m .atoms)
 measured c = measures-passed (entry2 c .args .m) _ (sym (c .before .before .before .check-measures .ensures) ∙ c .before .bands .given .1)
 
-left2 : (c : tie.After-known-told) → totalsRefusal (handed (entry2 c)) ≡ firstFailed (from2 (handed (entry2 c)))
-left2 c = next 1 _ _ (measured c .0) (all-tests (handed (entry2 c)))
+past1 : (c : tie.After-known-told) → Past (entry2 c) 1
+unfolding totalsRefusal
+past1 c = pass _ _ (measured c .0)
 
-left3 : (c : tie.Else1) → totalsRefusal (handed (entry3 c)) ≡ firstFailed (from3 (handed (entry3 c)))
+-- what the test for number 2 told
+sized : (c : tie.After-lengths-ok) → c .lengths-ok .result ≡ totalsLengthsOk (handed (entry2 (c .before)))
 unfolding totalsLengthsOk lengthTests
-left3 c = next 2 _ _ (sym (c .before .lengths-ok .ensures) ∙ not-false _ (c .if1 .left)) (left2 (c .before .before))
+sized c = c .lengths-ok .ensures
 
-left4 : (c : tie.Else2) → totalsRefusal (handed (entry4 c)) ≡ firstFailed (from4 (handed (entry4 c)))
-left4 c = next 3 _ _ (sym (c .before .points-ok .ensures) ∙ not-false _ (c .if2 .left)) (left3 (c .before .before .before))
+past2 : (c : tie.Else1) → Past (entry3 c) 2
+past2 c = past1 (c .before .before) ∙ pass _ _ (told-good (sized (c .before)) (c .if1 .left))
+
+past3 : (c : tie.Else2) → Past (entry4 c) 3
+past3 c = past2 (c .before .before .before) ∙ pass _ _ (told-good (c .before .points-ok .ensures) (c .if2 .left))
 
 -- what the scans for number 4 told
 real :
@@ -72,11 +83,11 @@ real :
 unfolding totalsFinite allTrue allTrueAfter
 real c = rw (c .before .before .before .is-finite .ensures, c .before .before .all-finite .ensures, c .before .all-finite2 .ensures, c .bath-finite .ensures) refl
 
-left7 : (c : tie.Else3) → totalsRefusal (handed (entry7 c)) ≡ firstFailed (from7 (handed (entry7 c)))
-left7 c = next 4 _ _ (sym (real (c .before)) ∙ not-false _ (c .if3 .left)) (left4 (c .before .before .before .before .before))
+past4 : (c : tie.Else3) → Past (entry7 c) 4
+past4 c = past3 (c .before .before .before .before .before) ∙ pass _ _ (told-good (real (c .before)) (c .if3 .left))
 
-left8 : (c : tie.Else4) → totalsRefusal (handed (entry8 c)) ≡ firstFailed (from8 (handed (entry8 c)))
-left8 c = next 7 _ _ (sym (c .before .cutoff-ok .ensures) ∙ not-false _ (c .if4 .left)) (left7 (c .before .before))
+past7 : (c : tie.Else4) → Past (entry8 c) 5
+past7 c = past4 (c .before .before) ∙ pass _ _ (told-good (c .before .cutoff-ok .ensures) (c .if4 .left))
 
 -- ---- the needs
 
@@ -90,16 +101,14 @@ enum-told : tie.Need-enum-told
 enum-told c = search needs
 
 returns : tie.Need-returns
-returns c =
-    let s = c .before .before .before .before .before .before .before .before .before in
-    turned _ 0 _ (fails 1 _ _ (measures-failed (s .args .m) _ (sym (c .before .before .check-measures .ensures) ∙ c .enum-told .given .1)) (all-tests (handed s)))
+unfolding totalsRefusal
+returns c = turned _ 0 _ (stop _ _ (measures-failed _ _ (sym (c .before .before .check-measures .ensures) ∙ c .enum-told .given .1)))
 
 lengths-ok-requires : tie.Need-lengths-ok-requires
 lengths-ok-requires c κs = measured c
 
 returns-2 : tie.Need-returns-2
-unfolding totalsLengthsOk lengthTests
-returns-2 c = turned _ 1 _ (fails 2 _ _ (sym (c .before .lengths-ok .ensures) ∙ not-true _ (c .if1 .taken)) (left2 (c .before .before)))
+returns-2 c = turned _ 1 _ (past1 (c .before .before) ∙ stop _ _ (told-bad (sized (c .before)) (c .if1 .taken)))
 
 slice-aggregate-points-ok : tie.Need-slice-aggregate-points-ok
 slice-aggregate-points-ok c = search needs
@@ -108,7 +117,7 @@ points-ok-requires : tie.Need-points-ok-requires
 points-ok-requires c κs = let l = limits _ (measured (c .before .before .before) .0) in (omega arith, omega arith)
 
 returns-3 : tie.Need-returns-3
-returns-3 c = turned _ 2 _ (fails 3 _ _ (sym (c .before .points-ok .ensures) ∙ not-true _ (c .if2 .taken)) (left3 (c .before .before .before)))
+returns-3 c = turned _ 2 _ (past2 (c .before .before .before) ∙ stop _ _ (told-bad (c .before .points-ok .ensures) (c .if2 .taken)))
 
 is-finite-requires : tie.Need-is-finite-requires
 is-finite-requires c κs = search needs
@@ -123,23 +132,24 @@ bath-finite-requires : tie.Need-bath-finite-requires
 bath-finite-requires c κs = search needs
 
 returns-4 : tie.Need-returns-4
-returns-4 c = turned _ 3 _ (fails 4 _ _ (sym (real (c .before)) ∙ not-true _ (c .if3 .taken)) (left4 (c .before .before .before .before .before)))
+returns-4 c = turned _ 3 _ (past3 (c .before .before .before .before .before) ∙ stop _ _ (told-bad (real (c .before)) (c .if3 .taken)))
 
 cutoff-ok-requires : tie.Need-cutoff-ok-requires
 cutoff-ok-requires c κs = search needs
 
 returns-5 : tie.Need-returns-5
-returns-5 c = turned _ 6 _ (fails 7 _ _ (sym (c .before .cutoff-ok .ensures) ∙ not-true _ (c .if4 .taken)) (left7 (c .before .before)))
+returns-5 c = turned _ 6 _ (past4 (c .before .before) ∙ stop _ _ (told-bad (c .before .cutoff-ok .ensures) (c .if4 .taken)))
 
 bath-ok-requires : tie.Need-bath-ok-requires
 bath-ok-requires c κs = search needs
 
 returns-6 : tie.Need-returns-6
-returns-6 c = turned _ 7 _ (fails 8 _ _ (sym (c .before .bath-ok .ensures) ∙ not-true _ (c .if5 .taken)) (left8 (c .before .before)))
+returns-6 c = turned _ 7 _ (past7 (c .before .before) ∙ stop _ _ (told-bad (c .before .bath-ok .ensures) (c .if5 .taken)))
 
 returns-7 : tie.Need-returns-7
 returns-7 c =
-    passed _ _ _ (measured (c .before .before .before .before .before .before .before .before .before .before .before .before .before .before) .1) (next 8 _ _ (sym (c .before .bath-ok .ensures) ∙ not-false _ (c .if5 .left)) (left8 (c .before .before)))
+    handed-on _ _ _ (measured (c .before .before .before .before .before .before .before .before .before .before .before .before .before .before) .1)
+    (past7 (c .before .before) ∙ pass _ _ (told-good (c .before .bath-ok .ensures) (c .if5 .left)))
 
 pub check-spec : {M : Type 1} → statement M
 check-spec =

@@ -3,11 +3,11 @@ use mathlib.Core.Path.{_≡_, refl, sym, _∙_}
 use mathlib.Core.Bool.{true, false, _&&_}
 use native.Mathlib.Omega.{arith}
 use borrow.Author.Needs.{needs}
-use borrow.Author.Tests.{not-true, not-false}
 use Rattle.phonon.specs.Tests.{allTrue, allTrueAfter}
 use Rattle.phonon.specs.Limits.{atomsOk, firstOk, gridOk}
 use Rattle.phonon.specs.Refusal.{totalsMeasuresOk}
-use Rattle.checks.proofs.Laws.{measured-in}
+use Rattle.phonon.proofs.Accepted.{measured-in}
+use Rattle.checks.proofs.Laws.{told-good, told-bad}
 use Rattle.imag_self_energy.specs.Check.{measuresChecked}
 use Rattle.imag_self_energy.proofs.check.check_measures.Statement.{statement}
 use Rattle.imag_self_energy.proofs.check.check_measures.Tie as tie
@@ -18,12 +18,12 @@ is-measured-requires c κs = search needs
 returns : tie.Need-returns
 unfolding measuresChecked totalsMeasuresOk allTrue allTrueAfter
 returns c =
-    let p : atomsOk (c .before .before .args .m .atoms) ≡ false = sym (c .before .is-measured .ensures) ∙ not-true _ (c .if1 .taken) in
+    let p : atomsOk (c .before .before .args .m .atoms) ≡ false = told-bad (c .before .is-measured .ensures) (c .if1 .taken) in
     rw p refl
 
 -- P passes
 passed : (c : tie.Else1) → atomsOk (c .before .before .args .m .atoms) ≡ true
-passed c = sym (c .before .is-measured .ensures) ∙ not-false _ (c .if1 .left)
+passed c = told-good (c .before .is-measured .ensures) (c .if1 .left)
 
 mul-bands : tie.Need-mul-bands
 mul-bands c = omega (arith, measured-in _ _ (c .before .before .before .args .m .atoms) (passed (c .before)))

@@ -9,9 +9,8 @@ use borrow.Author.Needs.{needs}
 use lib.Ieee.{Float}
 use lib.ListN.{length, set, length-set}
 use Rattle.phonon.specs.ImagSelfEnergy.{block}
-use Rattle.imag_self_energy.specs.Bands.{Within}
 use Rattle.imag_self_energy.specs.Lists.{pairTotal}
-use Rattle.imag_self_energy.proofs.Laws.{sized-within, Filled, filled-none, filled-two, filled-table}
+use Rattle.imag_self_energy.proofs.Laws.{Within, sized-within, Filled, filled-none, filled-two, filled-table}
 use Rattle.imag_self_energy.proofs.ListLaws.{total-listed}
 use Rattle.imag_self_energy.proofs.listed.fill_totals.Statement.{statement}
 use Rattle.imag_self_energy.proofs.listed.fill_totals.Tie as tie

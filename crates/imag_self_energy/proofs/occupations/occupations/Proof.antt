@@ -1,6 +1,7 @@
 -- Where both exceed the cutoff both are worked out; elsewhere each by itself.
 use borrow.Author.Needs.{needs}
-use Rattle.imag_self_energy.proofs.Laws.{above, both-above}
+use Rattle.phonon.proofs.Accepted.{and-both}
+use Rattle.imag_self_energy.proofs.Laws.{above}
 use Rattle.imag_self_energy.proofs.occupations.occupations.Statement.{statement}
 use Rattle.imag_self_energy.proofs.occupations.occupations.Tie as tie
 
@@ -9,7 +10,7 @@ bose-einstein-two-requires c κs = search needs
 
 returns : tie.Need-returns
 returns c =
-    let h = both-above _ _ _ (c .before .if1 .taken) in
+    let h = and-both _ _ (c .before .if1 .taken) in
     let e = c .bose-einstein-two .ensures in
     (above _ _ _ (h .0) (e .0), above _ _ _ (h .1) (e .1))
 

@@ -2,7 +2,7 @@
 use native.Mathlib.Omega.{arith}
 use mathlib.Core.Path.{_≡_, refl, sym, _∙_}
 use mathlib.Core.Bool.{true, _&&_}
-use mathlib.Core.List.{List, [], _∷_}
+use mathlib.Core.List.{List}
 use borrow.Author.Needs.{needs}
 use Prim.Native.Nat.{ℕ}
 use lib.Ieee.{Float}
@@ -10,10 +10,11 @@ use lib.ListN.{length, drop}
 use Rattle.phonon.specs.Tests.{allTrue}
 use Rattle.phonon.specs.Sets.{Tables, JoinedSet, ofJoined}
 use Rattle.phonon.specs.Limits.{sizesOf}
-use Rattle.phonon.specs.Refusal.{measuresOk, tableLengths, sizes, joinedLengthsOk, indicesOk, tablesFinite, bathFinite, meshOk, massesOk, cutoffOk, bathOk, phasesOk, Test, firstFailed, joinedRefusal}
-use Rattle.phonon.proofs.Accepted.{and-both, measured-facts, size-facts}
+use Rattle.phonon.specs.Refusal.{measuresOk, tableLengths, sizes, joinedLengthsOk, indicesOk, tablesFinite, bathFinite, meshOk, phasesOk, firstFailed, joinedTests, joinedRefusal}
+use Rattle.phonon.proofs.Accepted.{and-both, pass, stop, measured-facts, size-facts}
+use Rattle.checks.proofs.Laws.{told-good, told-bad}
 use Rattle.refusals.proofs.MeasureLaws.{within-told, beyond-told}
-use Rattle.refusals.proofs.TableLaws.{told-good, told-bad, pass, stop, refused, accepted, lengths-are, indices-are, finite-are, mesh-are, phases-are, anchors, located, joined-sized, indices-told}
+use Rattle.refusals.proofs.TableLaws.{refused, accepted, lengths-are, indices-are, finite-are, mesh-are, phases-are, ranged, anchored, located, joined-sized, indices-told}
 use Rattle.refusals.proofs.joined.check_joined.Statement.{statement}
 use Rattle.refusals.proofs.joined.check_joined.Tie as tie
 
@@ -60,23 +61,9 @@ set s v u w =
 three : (s : tie.Start) → length (s .args .t8) ≡ 3
 three s = let g = s .good .1 .1 .1 .1 .1 .1 .1 .0 in search needs
 
--- its tests, as joinedRefusal has them
-abbrev tests : JoinedSet → List Test
-tests s =
-    record { number = 1; good = measuresOk (s .tables .measures) }
-    ∷ record { number = 2; good = joinedLengthsOk s }
-    ∷ record { number = 3; good = indicesOk (s .tables) (s .triplet) }
-    ∷ record { number = 4; good = tablesFinite (s .tables) && bathFinite (s .bath) (s .first) (s .second) }
-    ∷ record { number = 5; good = meshOk (s .tables) }
-    ∷ record { number = 6; good = massesOk (s .tables .crystal .masses) }
-    ∷ record { number = 7; good = cutoffOk (s .tables .settings .cutoff) }
-    ∷ record { number = 8; good = bathOk (s .bath) }
-    ∷ record { number = 9; good = phasesOk (ofJoined s) }
-    ∷ []
-
--- the first n of them hold
+-- the first n of its tests hold
 abbrev Past : tie.Start → ℕ → Type 0
-Past s n = (v u w : List Float) → length v ≡ s .args .strengths → length u ≡ s .args .totals → length w ≡ s .args .work → joinedRefusal (set s v u w) ≡ firstFailed (drop n (tests (set s v u w)))
+Past s n = (v u w : List Float) → length v ≡ s .args .strengths → length u ≡ s .args .totals → length w ≡ s .args .work → joinedRefusal (set s v u w) ≡ firstFailed (drop n (joinedTests (set s v u w)))
 
 -- ---- the start, from each place
 
@@ -266,7 +253,7 @@ phases-ok-requires c κs =
     let m = within-limits (l .before .before .before .before) .0 in
     let n = good-tables l in
     let i = and-both _ _ (good-indices (indexed (c .before))) in
-    (located t m n 3 _ (omega (arith, three (at-lengths l))) (i .0), anchors t m n (i .1))
+    (located t m n 3 _ (omega (arith, three (at-lengths l))) (i .0), ranged t m n (i .1), anchored t m n (i .1))
 
 returns-9 : tie.Need-returns-9
 returns-9 c = λ v u w p r q. refused 8 _ (past-bath (c .before .before .before) v u w p r q ∙ stop _ _ (told-bad (phases-told (c .before) v u w) (c .if8 .taken)))

@@ -2,7 +2,7 @@
 use native.Mathlib.Omega.{arith}
 use mathlib.Core.Path.{_≡_, refl, sym, _∙_}
 use mathlib.Core.Bool.{true, _&&_}
-use mathlib.Core.List.{List, [], _∷_}
+use mathlib.Core.List.{List}
 use borrow.Author.Needs.{needs}
 use Prim.Native.Nat.{ℕ, _*_, _≤_}
 use borrow.Author.Tests.{eqb-true}
@@ -12,10 +12,11 @@ use lib.ListN.{length, drop}
 use Rattle.phonon.specs.Tests.{allTrue, everyBelow}
 use Rattle.phonon.specs.Sets.{Tables, ListSet, ofList}
 use Rattle.phonon.specs.Limits.{listOk, sizesOf}
-use Rattle.phonon.specs.Refusal.{measuresOk, tableLengths, sizes, listLengthsOk, indicesOk, tablesFinite, meshOk, massesOk, cutoffOk, phasesOk, Test, firstFailed, listRefusal}
-use Rattle.phonon.proofs.Accepted.{and-both, both-and, measured-facts, size-facts}
+use Rattle.phonon.specs.Refusal.{measuresOk, tableLengths, sizes, listLengthsOk, indicesOk, tablesFinite, meshOk, phasesOk, firstFailed, listTests, listRefusal}
+use Rattle.phonon.proofs.Accepted.{and-both, both-and, pass, stop, measured-facts, size-facts}
+use Rattle.checks.proofs.Laws.{told-good, told-bad}
 use Rattle.refusals.proofs.MeasureLaws.{list-small, list-slots, within-told, beyond-told}
-use Rattle.refusals.proofs.TableLaws.{told-good, told-bad, pass, stop, refused, accepted, lengths-are, indices-are, finite-are, mesh-are, list-phases-are, anchors, located, list-sized, indices-told}
+use Rattle.refusals.proofs.TableLaws.{refused, accepted, lengths-are, indices-are, finite-are, mesh-are, list-phases-are, ranged, anchored, located, list-sized, indices-told}
 use Rattle.refusals.proofs.list.check_list.Statement.{statement}
 use Rattle.refusals.proofs.list.check_list.Tie as tie
 
@@ -56,22 +57,9 @@ set s v w =
       work = w;
     }
 
--- its tests, as listRefusal has them
-abbrev tests : ListSet → List Test
-tests s =
-    record { number = 1; good = measuresOk (s .tables .measures) && listOk (s .list) }
-    ∷ record { number = 2; good = listLengthsOk s }
-    ∷ record { number = 3; good = indicesOk (s .tables) (s .triplets) }
-    ∷ record { number = 4; good = tablesFinite (s .tables) }
-    ∷ record { number = 5; good = meshOk (s .tables) }
-    ∷ record { number = 6; good = massesOk (s .tables .crystal .masses) }
-    ∷ record { number = 7; good = cutoffOk (s .tables .settings .cutoff) }
-    ∷ record { number = 9; good = everyBelow (λ t. phasesOk (ofList s t)) (s .list) }
-    ∷ []
-
--- the first n of them hold
+-- the first n of its tests hold
 abbrev Past : tie.Start → ℕ → Type 0
-Past s n = (v w : List Float) → length v ≡ s .args .strengths → length w ≡ s .args .work → listRefusal (set s v w) ≡ firstFailed (drop n (tests (set s v w)))
+Past s n = (v w : List Float) → length v ≡ s .args .strengths → length w ≡ s .args .work → listRefusal (set s v w) ≡ firstFailed (drop n (listTests (set s v w)))
 
 -- ---- the start, from each place
 
@@ -262,7 +250,7 @@ list-phases-ok-requires c κs =
     let m = within-limits (l .before .before .before .before .before .before) .0 in
     let n = good-lengths l in
     let i = and-both _ _ (good-indices (indexed c)) in
-    (located t m (n .1) (at-lengths l .args .list * 3) _ (omega (arith, n .0)) (i .0), anchors t m (n .1) (i .1))
+    (located t m (n .1) (at-lengths l .args .list * 3) _ (omega (arith, n .0)) (i .0), ranged t m (n .1) (i .1), anchored t m (n .1) (i .1))
 
 returns-9 : tie.Need-returns-9
 returns-9 c = λ v w p q. refused 8 _ (past-cutoff (c .before .before) v w p q ∙ stop _ _ (told-bad (phases-told (c .before) v w) (c .if8 .taken)))

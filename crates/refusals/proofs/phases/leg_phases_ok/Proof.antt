@@ -5,10 +5,9 @@ use mathlib.Core.Path.{_≡_, refl, sym, _∙_}
 use mathlib.Core.Bool.{true}
 use lib.ListN.{length}
 use borrow.Author.Needs.{needs}
-use borrow.Author.Tests.{not-true, not-false}
 use Rattle.phonon.specs.Tests.{everyBelow}
 use Rattle.real_to_reciprocal.proofs.TestLaws.{ranged-at}
-use Rattle.checks.proofs.Laws.{every-bad}
+use Rattle.checks.proofs.Laws.{told-good, told-bad, every-bad}
 use Rattle.phonon.proofs.Accepted.{every-none, every-next}
 use Rattle.refusals.proofs.PhaseLaws.{vectorFine, entryFine, entry-is, leg-is}
 use Rattle.refusals.proofs.phases.leg_phases_ok.Statement.{statement}
@@ -89,7 +88,7 @@ loop-again : tie.Need-loop-again Inv-loop μ-loop Inv-entries μ-entries
 loop-again c =
     let l = c .before .before .before .before .loop in
     let v = vectorFine (start-of (c .before .before .before) .args .q .now) (start-of (c .before .before .before) .args .vectors .now) (c .before .before .before .before .before .index-at2 .result) in
-    (omega (arith, c .before .before .before .loop-test .taken), l .inv .1, every-next v (l .i) (l .inv .2) (sym (tested (c .before)) ∙ not-false _ (c .if1 .left)))
+    (omega (arith, c .before .before .before .loop-test .taken), l .inv .1, every-next v (l .i) (l .inv .2) (told-good (tested (c .before)) (c .if1 .left)))
 
 add-n : tie.Need-add-n Inv-loop μ-loop Inv-entries μ-entries
 add-n c = omega (arith, c .before .before .before .before .entries-test .taken)
@@ -121,7 +120,7 @@ returns-2 c =
     let s = start-of h in
     let n = h .before .before .before .before .before .entries .n in
     let v = vectorFine (s .args .q .now) (s .args .vectors .now) (h .before .before .index-at2 .result) in
-    let bad = every-bad v (h .before .before .before .index-at .result) (h .before .loop .i) (h .loop-test .taken) (sym (tested (c .before)) ∙ not-true _ (c .if1 .taken)) in
+    let bad = every-bad v (h .before .before .before .index-at .result) (h .before .loop .i) (h .loop-test .taken) (told-bad (tested (c .before)) (c .if1 .taken)) in
     let e = entry-is (s .args .q .now) (s .args .vectors .now) (s .args .multiplicity .now) n (h .before .before .before .index-at .ensures) (h .before .before .index-at2 .ensures) in
     sym (every-bad (entryFine (s .args .q .now) (s .args .vectors .now) (s .args .multiplicity .now)) (s .args .entries) n (h .before .before .before .before .entries-test .taken) (sym e ∙ bad))
     ∙ leg-is (s .args .q .now) (s .args .vectors .now) (s .args .multiplicity .now) (s .args .entries)

@@ -1,11 +1,10 @@
 -- Every triplet before number t is fine.
 use Prim.Native.Nat.{ℕ, _+_, _-_, _*_, _≤_}
 use native.Mathlib.Omega.{arith}
-use mathlib.Core.Path.{_≡_, sym, _∙_}
+use mathlib.Core.Path.{_≡_, sym}
 use mathlib.Core.Bool.{Bool, true}
-use borrow.Author.Tests.{not-true, not-false}
 use Rattle.phonon.specs.Tests.{everyBelow}
-use Rattle.checks.proofs.Laws.{every-bad}
+use Rattle.checks.proofs.Laws.{told-good, told-bad, every-bad}
 use Rattle.refusals.specs.Phases.{tripletFine}
 use Rattle.phonon.proofs.Accepted.{every-none, every-next}
 use Rattle.refusals.proofs.PhaseLaws.{part-located}
@@ -66,13 +65,13 @@ part-points-end c = omega (arith, c .loop-test .taken, c .before .before .before
 phases-ok-requires : tie.Need-phases-ok-requires Inv-loop μ-loop
 phases-ok-requires c κs =
     let s = c .before .before .before .before in
-    (rw (three (c .before .before .loop .t)) (part-located (c .before .before .loop .t) (s .pre .0) (c .before .loop-test .taken)), s .pre .1)
+    (rw (three (c .before .before .loop .t)) (part-located (c .before .before .loop .t) (s .pre .0) (c .before .loop-test .taken)), s .pre .1, s .pre .2)
 
 returns : tie.Need-returns Inv-loop μ-loop
 returns c =
     let d = c .before in
     let s = start-of d in
-    sym (every-bad (fine s) (s .args .list) (d .before .before .before .loop .t) (d .before .before .loop-test .taken) (sym (tested d) ∙ not-true _ (c .if1 .taken)))
+    sym (every-bad (fine s) (s .args .list) (d .before .before .before .loop .t) (d .before .before .loop-test .taken) (told-bad (tested d) (c .if1 .taken)))
 
 add-t : tie.Need-add-t Inv-loop μ-loop
 add-t c = omega (arith, c .before .before .before .loop-test .taken)
@@ -84,7 +83,7 @@ loop-again : tie.Need-loop-again Inv-loop μ-loop
 loop-again c =
     let d = c .before in
     let l = d .before .before .before .loop in
-    (omega (arith, d .before .before .loop-test .taken), every-next (fine (start-of d)) (l .t) (l .inv .1) (sym (tested d) ∙ not-false _ (c .if1 .left)))
+    (omega (arith, d .before .before .loop-test .taken), every-next (fine (start-of d)) (l .t) (l .inv .1) (told-good (tested d) (c .if1 .left)))
 
 returns-2 : tie.Need-returns-2 Inv-loop μ-loop
 returns-2 c =

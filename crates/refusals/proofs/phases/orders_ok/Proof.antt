@@ -6,9 +6,8 @@ use mathlib.Core.Bool.{Bool, true}
 use mathlib.Core.List.{[]}
 use lib.ListN.{getD}
 use borrow.Author.Needs.{needs}
-use borrow.Author.Tests.{not-true, not-false}
 use Rattle.phonon.specs.Tests.{everyBelow}
-use Rattle.checks.proofs.Laws.{every-bad}
+use Rattle.checks.proofs.Laws.{told-good, told-bad, every-bad}
 use Rattle.refusals.specs.Phases.{ordersFor}
 use Rattle.phonon.proofs.Accepted.{every-none, every-next}
 use Rattle.refusals.proofs.PhaseLaws.{orderFine, orders-are, count-most, places, exchanged-is}
@@ -95,7 +94,7 @@ returns c =
     let d = c .before in
     let s = start-of d in
     let l = d .before .before .before .before .before .before .before .before in
-    sym (every-bad (fine s) (l .before .before .order-count .result) (l .before .loop .o) (l .loop-test .taken) (sym (tested d) ∙ not-true _ (c .if1 .taken))) ∙ all-told (l .before .before)
+    sym (every-bad (fine s) (l .before .before .order-count .result) (l .before .loop .o) (l .loop-test .taken) (told-bad (tested d) (c .if1 .taken))) ∙ all-told (l .before .before)
 
 add-o : tie.Need-add-o Inv-loop μ-loop
 add-o c = omega (arith, order-in (c .before .before .before .before .before .before .before .before .before))
@@ -107,7 +106,7 @@ loop-again : tie.Need-loop-again Inv-loop μ-loop
 loop-again c =
     let d = c .before in
     let l = d .before .before .before .before .before .before .before .before in
-    (omega (arith, l .loop-test .taken), every-next (fine (start-of d)) (l .before .loop .o) (l .before .loop .inv .1) (sym (tested d) ∙ not-false _ (c .if1 .left)))
+    (omega (arith, l .loop-test .taken), every-next (fine (start-of d)) (l .before .loop .o) (l .before .loop .inv .1) (told-good (tested d) (c .if1 .left)))
 
 returns-2 : tie.Need-returns-2 Inv-loop μ-loop
 returns-2 c =

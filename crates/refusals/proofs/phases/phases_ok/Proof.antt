@@ -1,6 +1,6 @@
 -- Each call told one of the tests, at the q of one leg.
 use native.Mathlib.Omega.{arith}
-use Rattle.refusals.proofs.PhaseLaws.{anchored, phases-told}
+use Rattle.refusals.proofs.PhaseLaws.{phases-told}
 use borrow.Author.Needs.{needs}
 use Rattle.refusals.proofs.phases.phases_ok.Statement.{statement}
 use Rattle.refusals.proofs.phases.phases_ok.Tie as tie
@@ -36,7 +36,7 @@ leg-phases-ok-requires-3 : tie.Need-leg-phases-ok-requires-3
 leg-phases-ok-requires-3 c κs = search needs
 
 orders-ok-requires : tie.Need-orders-ok-requires
-orders-ok-requires c κs = anchored (c .before .before .before .before .before .before .before .before .before .before .before .before .before .pre .1)
+orders-ok-requires c κs = search needs
 
 returns : tie.Need-returns
 returns c =

@@ -7,7 +7,6 @@ use mathlib.Core.List.{List}
 use lib.ListN.{length}
 use lib.Ieee.{Float}
 use borrow.Author.Needs.{needs}
-use borrow.Author.Tests.{not-true, not-false}
 use Rattle.phonon.specs.Number.{index, int}
 use Rattle.phonon.specs.Trig.{inDomain}
 use Rattle.phonon.specs.Sets.{Legs}
@@ -15,7 +14,7 @@ use Rattle.phonon.specs.RealToReciprocal.{prePhase, anchorVector}
 use Rattle.phonon.specs.Tests.{everyBelow}
 use Rattle.real_to_reciprocal.proofs.TestLaws.{atom-below}
 use Rattle.real_to_reciprocal.proofs.PhaseLaws.{anchor-at, anchor-in}
-use Rattle.checks.proofs.Laws.{every-bad}
+use Rattle.checks.proofs.Laws.{told-good, told-bad, every-bad}
 use Rattle.phonon.proofs.Accepted.{every-none, every-next}
 use Rattle.refusals.proofs.PhaseLaws.{atomFine, atoms-are}
 use Rattle.refusals.proofs.phases.pre_phases_ok.Statement.{statement}
@@ -99,7 +98,7 @@ returns : tie.Need-returns Inv-loop μ-loop
 returns c =
     let d = c .before in
     let s = start-of d in
-    sym (every-bad (fine s) (s .args .atoms) (d .before .before .before .before .before .loop .i) (d .before .before .before .before .loop-test .taken) (sym (tested d) ∙ not-true _ (c .if1 .taken)))
+    sym (every-bad (fine s) (s .args .atoms) (d .before .before .before .before .before .loop .i) (d .before .before .before .before .loop-test .taken) (told-bad (tested d) (c .if1 .taken)))
     ∙ atoms-are (s .args .atoms) (s .args .vectors .now) (s .args .multiplicity .now) (s .args .p2s .now) (legs s)
 
 add-i : tie.Need-add-i Inv-loop μ-loop
@@ -112,7 +111,7 @@ loop-again : tie.Need-loop-again Inv-loop μ-loop
 loop-again c =
     let d = c .before in
     let l = d .before .before .before .before .before .loop in
-    (omega (arith, d .before .before .before .before .loop-test .taken), every-next (fine (start-of d)) (l .i) (l .inv .1) (sym (tested d) ∙ not-false _ (c .if1 .left)))
+    (omega (arith, d .before .before .before .before .loop-test .taken), every-next (fine (start-of d)) (l .i) (l .inv .1) (told-good (tested d) (c .if1 .left)))
 
 returns-2 : tie.Need-returns-2 Inv-loop μ-loop
 returns-2 c =
