@@ -13,6 +13,7 @@ use phonon::Settings;
 use phonon::Symmetry;
 use phonon::TotalsMeasures;
 use phonon::Weights;
+use refusals::number_of;
 ghost use mathlib.Core.Path.{_≡_};
 ghost use mathlib.Core.Bool.{true};
 ghost use mathlib.Core.List.{_∷_, _++_};
@@ -22,7 +23,7 @@ ghost use lib.Seq.{paste};
 ghost use lib.Ieee.{binary64, toBits};
 ghost use Rattle.phonon.specs.Number.{bits, f0};
 ghost use Rattle.phonon.specs.KeyCases.{M1, keyCases};
-ghost use Rattle.phonon.specs.Doors.{StrengthsOutcome, TotalsOutcome, JoinedOutcome, tripletOutcome, listOutcome, totalsOutcome, joinedOutcome, numberOf};
+ghost use Rattle.phonon.specs.Doors.{StrengthsOutcome, TotalsOutcome, JoinedOutcome, tripletOutcome, listOutcome, totalsOutcome, joinedOutcome};
 ghost use Rattle.key_cases.specs.Cells as Cells;
 
 // ---- the table
@@ -390,15 +391,6 @@ enum Door {
     List,
     Totals,
     Joined,
-}
-
-fn number_of(a: Answer) -> u8
-    ensures { λ r. ⌜ r ≡ numberOf a ⌝ }
-{
-    match a {
-        Answer::Accepted => 0,
-        Answer::Refused(n) => n,
-    }
 }
 
 // Lends a door the part of each buffer that the case's F names, and returns its answer's number.

@@ -10,6 +10,7 @@ pub mod triplet;
 use phonon::Answer;
 use phonon::Sizes;
 ghost use mathlib.Core.Path.{_≡_};
+ghost use Rattle.phonon.specs.Doors.{numberOf};
 ghost use Rattle.refusals.specs.Answers.{answerOf};
 
 // What the measures are found to be: within their limits, with the sizes that they fix, or beyond them.
@@ -32,5 +33,15 @@ pub fn answer_of(c: Checked) -> Answer
     match c {
         Checked::Good(_) => Answer::Accepted,
         Checked::Bad(n) => Answer::Refused(n),
+    }
+}
+
+// An answer as one number: 0, or document 01's.
+pub fn number_of(a: Answer) -> u8
+    ensures { λ r. ⌜ r ≡ numberOf a ⌝ }
+{
+    match a {
+        Answer::Accepted => 0,
+        Answer::Refused(n) => n,
     }
 }

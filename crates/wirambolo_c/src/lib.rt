@@ -1,6 +1,5 @@
 // The doors for programs in C and Rust: choices as numbers, arrays of fixed length as slices, one number as the answer.
 use phonon::Anchoring;
-use phonon::Answer;
 use phonon::Bath;
 use phonon::Form;
 use phonon::Measures;
@@ -8,15 +7,15 @@ use phonon::Settings;
 use phonon::Symmetry;
 use phonon::TotalsMeasures;
 use phonon::Weights;
+use refusals::number_of;
 ghost use mathlib.Core.Path.{_≡_};
 ghost use mathlib.Core.Bool.{_&&_};
 ghost use lib.Dec.{eqb};
 ghost use lib.ListN.{length};
-ghost use Rattle.phonon.specs.Doors.{numberOf};
 ghost use Rattle.wirambolo_c.specs.Foreign as Foreign;
 ghost use Rattle.wirambolo_c.specs.Foreign.{Strengths, Totals, Joined};
 
-// ---- choices, arrays and answers
+// ---- choices and arrays
 
 fn is_known(x: u8) -> bool
     ensures { λ r. ⌜ r ≡ Foreign.known x ⌝ }
@@ -72,15 +71,6 @@ fn nine(s: &[i64]) -> [i64; 9]
     ensures { λ r. ⌜ r ≡ now (s .entry) ⌝ }
 {
     [s[0], s[1], s[2], s[3], s[4], s[5], s[6], s[7], s[8]]
-}
-
-fn number_of(a: Answer) -> u8
-    ensures { λ r. ⌜ r ≡ numberOf a ⌝ }
-{
-    match a {
-        Answer::Accepted => 0,
-        Answer::Refused(n) => n,
-    }
 }
 
 // Whether the choices are known and the arrays of the grid have their lengths.

@@ -2,8 +2,8 @@
 use mathlib.Core.Path.{refl}
 use borrow.Author.Needs.{needs}
 use Rattle.phonon.specs.Doors.{numberOf}
-use Rattle.wirambolo_c.proofs.number_of.Statement.{statement}
-use Rattle.wirambolo_c.proofs.number_of.Tie as tie
+use Rattle.refusals.proofs.number_of.Statement.{statement}
+use Rattle.refusals.proofs.number_of.Tie as tie
 
 enum-told : tie.Need-enum-told
 enum-told c = search needs
