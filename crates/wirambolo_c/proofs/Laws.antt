@@ -1,7 +1,7 @@
 -- An array whose entries are read one by one is its slice; and a call's answer is made from the door's.
 use Prim.Native.Nat.{ℕ, zero, suc}
 use mathlib.Core.Path.{_≡_, refl, ap, _∙_}
-use mathlib.Core.Bool.{Bool, true, false, _&&_}
+use mathlib.Core.Bool.{Bool, true, false, not, _&&_}
 use mathlib.Core.List.{List, [], _∷_}
 use lib.IntN.{ℤ, pos}
 use lib.ListN.{length, getD}
@@ -12,10 +12,11 @@ use Rattle.phonon.specs.declared.Answer.{Answer}
 use Rattle.phonon.specs.declared.Anchoring.{Anchoring}
 use Rattle.phonon.specs.declared.Form.{Form}
 use Rattle.phonon.specs.declared.Symmetry.{Symmetry}
-use Rattle.phonon.specs.Sets.{Tables, TripletSet, ListSet, TotalsSet, JoinedSet}
-use Rattle.phonon.specs.Doors.{numberOf, StrengthsOutcome, TotalsOutcome, JoinedOutcome, tripletOutcome, listOutcome, totalsOutcome, joinedOutcome}
+use Rattle.phonon.specs.Sets.{Tables, TotalsSet, JoinedSet}
+use Rattle.phonon.specs.Doors.{numberOf, StrengthsOutcome, TotalsOutcome, JoinedOutcome, totalsOutcome, joinedOutcome}
 use Rattle.phonon.proofs.Accepted.{and-both}
-use Rattle.wirambolo_c.specs.Foreign.{known, tablesRead, Strengths, Totals, Joined, tripletAnswer, listAnswer, totalsAnswer, joinedAnswer}
+use Rattle.checks.proofs.Laws.{told-good, told-bad}
+use Rattle.wirambolo_c.specs.Foreign.{known, tablesRead, Strengths, Totals, Joined, strengthsAnswer, totalsAnswer, joinedAnswer}
 
 -- ---- arrays
 
@@ -36,6 +37,15 @@ listed-whole (x ∷ l) = ap (x ∷_) (listed-cons 0 (length l) x l ∙ listed-wh
 
 pub spelt : (n : ℕ) (l : List ℤ) → length l ≡ n → listed 0 n l ≡ l
 spelt n l e = rw e at (listed-whole l)
+
+-- ---- what a call can be read by
+
+-- two tests of which a call told the first
+pub both-good : {a b : Bool} (k : Bool) → a ≡ b → not (a && k) ≡ false → b && k ≡ true
+both-good k e = told-good (ap (_&& k) e)
+
+pub both-bad : {a b : Bool} (k : Bool) → a ≡ b → not (a && k) ≡ true → b && k ≡ false
+both-bad k e = told-bad (ap (_&& k) e)
 
 -- the lengths of tables that are read
 pub grid-lengths : (a f y : ℕ) (mesh matrix : List ℤ) → tablesRead a f y mesh matrix ≡ true → (length mesh ≡ 3) × (length matrix ≡ 9)
@@ -75,27 +85,16 @@ joined-same s t triplet weight p q r = rw (p, q, r) refl
 
 -- ---- answers
 
-pub triplet-unread : (b : Bool) (s : TripletSet) → b ≡ false
-    → _≡_ {A = Strengths} (record { answer = 255; strengths = s .strengths; work = s .work }) (tripletAnswer b s)
-unfolding tripletAnswer
-triplet-unread b s e = rw e refl
+pub strengths-unread : {b : Bool} (o : StrengthsOutcome) (v w : List Float) → b ≡ false
+    → _≡_ {A = Strengths} (record { answer = 255; strengths = v; work = w }) (strengthsAnswer b o v w)
+unfolding strengthsAnswer
+strengths-unread o v w e = rw e refl
 
-pub triplet-answered : (b : Bool) (s : TripletSet) {a : Answer} {v w : List Float} {n : ℕ} → b ≡ true
-    → _≡_ {A = StrengthsOutcome} (record { answer = a; strengths = v; work = w }) (tripletOutcome s) → n ≡ numberOf a
-    → _≡_ {A = Strengths} (record { answer = n; strengths = v; work = w }) (tripletAnswer b s)
-unfolding tripletAnswer
-triplet-answered b s e h p = rw (e, p) (ap (λ o. record { answer = numberOf (o .answer); strengths = o .strengths; work = o .work }) h)
-
-pub list-unread : (b : Bool) (s : ListSet) → b ≡ false
-    → _≡_ {A = Strengths} (record { answer = 255; strengths = s .strengths; work = s .work }) (listAnswer b s)
-unfolding listAnswer
-list-unread b s e = rw e refl
-
-pub list-answered : (b : Bool) (s : ListSet) {a : Answer} {v w : List Float} {n : ℕ} → b ≡ true
-    → _≡_ {A = StrengthsOutcome} (record { answer = a; strengths = v; work = w }) (listOutcome s) → n ≡ numberOf a
-    → _≡_ {A = Strengths} (record { answer = n; strengths = v; work = w }) (listAnswer b s)
-unfolding listAnswer
-list-answered b s e h p = rw (e, p) (ap (λ o. record { answer = numberOf (o .answer); strengths = o .strengths; work = o .work }) h)
+pub strengths-answered : {b : Bool} {o : StrengthsOutcome} (x y : List Float) {a : Answer} {v w : List Float} {n : ℕ} → b ≡ true
+    → _≡_ {A = StrengthsOutcome} (record { answer = a; strengths = v; work = w }) o → n ≡ numberOf a
+    → _≡_ {A = Strengths} (record { answer = n; strengths = v; work = w }) (strengthsAnswer b o x y)
+unfolding strengthsAnswer
+strengths-answered x y e h p = rw (e, p) (ap (λ o. record { answer = numberOf (o .answer); strengths = o .strengths; work = o .work }) h)
 
 pub totals-unread : (b : Bool) (s : TotalsSet) → b ≡ false
     → _≡_ {A = Totals} (record { answer = 255; totals = s .totals }) (totalsAnswer b s)

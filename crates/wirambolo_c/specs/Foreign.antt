@@ -15,7 +15,7 @@ use Rattle.phonon.specs.declared.Symmetry.the-variants.{Off, Symmetrized}
 use Rattle.phonon.specs.declared.Weights.{Weights}
 use Rattle.phonon.specs.declared.Weights.the-variants.{PerSlot, AtFrequencyPoint}
 use Rattle.phonon.specs.Sets.{TripletSet, ListSet, TotalsSet, JoinedSet}
-use Rattle.phonon.specs.Doors.{numberOf, tripletOutcome, listOutcome, totalsOutcome, joinedOutcome}
+use Rattle.phonon.specs.Doors.{numberOf, StrengthsOutcome, tripletOutcome, listOutcome, totalsOutcome, joinedOutcome}
 
 -- ---- choices: 0 and 1, in the order of the enums. No other number is known.
 
@@ -58,13 +58,16 @@ pub record Joined : Type 0 where
   pub totals : List Float
   pub work : List Float
 
-unfoldable pub tripletAnswer : Bool → TripletSet → Strengths
-tripletAnswer true s = record { answer = numberOf (tripletOutcome s .answer); strengths = tripletOutcome s .strengths; work = tripletOutcome s .work }
-tripletAnswer false s = record { answer = 255; strengths = s .strengths; work = s .work }
+-- from the outcome of a door of the strengths, with the strengths and the work buffer as they were
+unfoldable pub strengthsAnswer : Bool → StrengthsOutcome → List Float → List Float → Strengths
+strengthsAnswer true o strengths work = record { answer = numberOf (o .answer); strengths = o .strengths; work = o .work }
+strengthsAnswer false o strengths work = record { answer = 255; strengths = strengths; work = work }
 
-unfoldable pub listAnswer : Bool → ListSet → Strengths
-listAnswer true s = record { answer = numberOf (listOutcome s .answer); strengths = listOutcome s .strengths; work = listOutcome s .work }
-listAnswer false s = record { answer = 255; strengths = s .strengths; work = s .work }
+abbrev pub tripletAnswer : Bool → TripletSet → Strengths
+tripletAnswer b s = strengthsAnswer b (tripletOutcome s) (s .strengths) (s .work)
+
+abbrev pub listAnswer : Bool → ListSet → Strengths
+listAnswer b s = strengthsAnswer b (listOutcome s) (s .strengths) (s .work)
 
 unfoldable pub totalsAnswer : Bool → TotalsSet → Totals
 totalsAnswer true s = record { answer = numberOf (totalsOutcome s .answer); totals = totalsOutcome s .totals }

@@ -1,1 +1,2 @@
+-- What a call from C means.
 pub mod Foreign

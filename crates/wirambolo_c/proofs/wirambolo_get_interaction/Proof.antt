@@ -1,49 +1,21 @@
 -- A call that cannot be read is answered with 255 and left as it is; any other is the door's.
-use mathlib.Core.Path.{_≡_, sym, _∙_}
+use mathlib.Core.Path.{_≡_}
 use lib.ListN.{length}
 use borrow.Author.Needs.{needs}
-use borrow.Author.Tests.{not-true, not-false}
-use Rattle.phonon.specs.Sets.{ListSet}
-use Rattle.wirambolo_c.specs.Foreign.{anchoringOf, formOf, symmetryOf}
-use Rattle.wirambolo_c.proofs.Laws.{grid-lengths, list-unread, list-answered}
+use Rattle.checks.proofs.Laws.{told-good, told-bad}
+use Rattle.wirambolo_c.proofs.Laws.{grid-lengths, strengths-unread, strengths-answered}
 use Rattle.wirambolo_c.proofs.wirambolo_get_interaction.Statement.{statement}
 use Rattle.wirambolo_c.proofs.wirambolo_get_interaction.Tie as tie
-
--- the set that the contract speaks of
-abbrev handed : tie.Start → ListSet
-handed s =
-    record {
-      tables = record {
-        measures = record { atoms = s .args .atoms; supercell = s .args .supercell; first = s .args .first; grid = s .args .grid; vectors = s .args .vectors-count };
-        settings = record { anchoring = anchoringOf (s .args .anchoring); cutoff = s .args .cutoff };
-        symmetry = symmetryOf (s .args .symmetry);
-        crystal = record {
-          vectors = s .args .vectors .now;
-          multiplicity = s .args .multiplicity .now;
-          masses = s .args .masses .now;
-          forces = record { form = formOf (s .args .form); p2s = s .args .p2s .now; s2p = s .args .s2p .now; shortest = s .args .shortest .now; nonzero = s .args .nonzero .now; constants = s .args .constants .now };
-        };
-        grid = record { mesh = s .args .mesh .now; matrix = s .args .matrix .now; addresses = s .args .addresses .now };
-        bands = s .args .bands .now;
-        phonons = record { frequencies = s .args .frequencies .now; eigenvectors = s .args .eigenvectors .now };
-      };
-      list = s .args .list;
-      triplets = s .args .triplets .now;
-      flags = s .args .flags .now;
-      strengths = s .args .strengths .now;
-      work = s .args .work .now;
-    }
 
 are-tables-read-requires : tie.Need-are-tables-read-requires
 are-tables-read-requires c κs = search needs
 
 returns : tie.Need-returns
-returns c =
-    list-unread _ (handed (c .before .before .before .before .before .before .before .before .before .before .before .before)) (rw (sym (c .before .are-tables-read .ensures)) (not-true _ (c .if1 .taken)))
+returns c = strengths-unread _ _ _ (told-bad (c .before .are-tables-read .ensures) (c .if1 .taken))
 
 -- the lengths of the mesh and of the q matrix
 lengths : (c : tie.After-anchoring-of) → (length (c .before .before .before .before .before .before .before .before .before .before .before .before .before .args .mesh .now) ≡ 3) × (length (c .before .before .before .before .before .before .before .before .before .before .before .before .before .args .matrix .now) ≡ 9)
-lengths c = grid-lengths _ _ _ _ _ (sym (c .before .before .are-tables-read .ensures) ∙ not-false _ (c .before .if1 .left))
+lengths c = grid-lengths _ _ _ _ _ (told-good (c .before .before .are-tables-read .ensures) (c .before .if1 .left))
 
 anchoring-of-requires : tie.Need-anchoring-of-requires
 anchoring-of-requires c κs = search needs
@@ -74,7 +46,7 @@ same-length-2 c = search needs
 
 returns-2 : tie.Need-returns-2
 returns-2 c =
-    list-answered _ (handed (c .before .before .before .before .before .before .before .before .before .before .before .before .before .before .before .before .before .before .before .before .before .before .before .before .before)) (rw (sym (c .before .before .before .before .before .before .before .before .before .before .before .before .before .before .are-tables-read .ensures)) (not-false _ (c .before .before .before .before .before .before .before .before .before .before .before .before .before .if1 .left)))
+    strengths-answered _ _ (told-good (c .before .before .before .before .before .before .before .before .before .before .before .before .before .before .are-tables-read .ensures) (c .before .before .before .before .before .before .before .before .before .before .before .before .before .if1 .left))
     (rw (c .before .before .before .before .before .before .before .before .nine .ensures, c .before .before .before .before .before .before .before .before .before .three .ensures, c .before .before .before .before .before .before .before .before .before .before .symmetry-of .ensures, c .before .before .before .before .before .before .before .before .before .before .before .form-of .ensures, c .before .before .before .before .before .before .before .before .before .before .before .before .anchoring-of .ensures) at (c .before .before .before .before .before .get-interaction .ensures))
     (c .number-of .ensures)
 

@@ -1,16 +1,16 @@
 -- A call that cannot be read is answered with 255 and left as it is; any other is the door's.
-use mathlib.Core.Path.{_≡_, sym, _∙_}
+use mathlib.Core.Path.{_≡_}
 use mathlib.Core.Bool.{true}
 use lib.Dec.{eqb}
 use lib.ListN.{length}
 use borrow.Author.Needs.{needs}
-use borrow.Author.Tests.{eqb-true, not-true, not-false}
+use borrow.Author.Tests.{eqb-true}
 use mir.ValLaws.{toZ-ofZ}
 use mir.Syntax.{w64}
 use Rattle.phonon.specs.Sets.{JoinedSet}
 use Rattle.phonon.proofs.Accepted.{and-both}
-use Rattle.wirambolo_c.specs.Foreign.{anchoringOf, formOf, symmetryOf}
-use Rattle.wirambolo_c.proofs.Laws.{grid-lengths, tables-same, joined-same, joined-unread, joined-answered}
+use Rattle.wirambolo_c.specs.Foreign.{anchoringOf, formOf, symmetryOf, tablesRead}
+use Rattle.wirambolo_c.proofs.Laws.{both-good, both-bad, grid-lengths, tables-same, joined-same, joined-unread, joined-answered}
 use Rattle.wirambolo_c.proofs.wirambolo_joined_at_triplet.Statement.{statement}
 use Rattle.wirambolo_c.proofs.wirambolo_joined_at_triplet.Tie as tie
 
@@ -47,15 +47,18 @@ are-tables-read-requires c κs = search needs
 
 returns : tie.Need-returns
 returns c =
-    joined-unread _ (handed (c .before .before .before .before .before .before .before .before .before .before .before .before .before .before .before)) (rw (sym (c .before .are-tables-read .ensures)) (not-true _ (c .if1 .taken)))
+    joined-unread _ (handed (c .before .before .before .before .before .before .before .before .before .before .before .before .before .before .before)) (both-bad _ (c .before .are-tables-read .ensures) (c .if1 .taken))
+
+abbrev entry : tie.After-anchoring-of → tie.Start
+entry c = c .before .before .before .before .before .before .before .before .before .before .before .before .before .before .before .before
 
 -- the tests that the call has passed: of the tables, and of the triplet's length
-passed : (c : tie.After-anchoring-of) → (c .before .before .are-tables-read .result ≡ true) × (eqb (length (c .before .before .before .before .before .before .before .before .before .before .before .before .before .before .before .before .args .triplet .now)) 3 ≡ true)
-passed c = and-both (c .before .before .are-tables-read .result) _ (not-false _ (c .before .if1 .left))
+passed : (c : tie.After-anchoring-of) → (tablesRead (entry c .args .anchoring) (entry c .args .form) (entry c .args .symmetry) (entry c .args .mesh .now) (entry c .args .matrix .now) ≡ true) × (eqb (length (entry c .args .triplet .now)) 3 ≡ true)
+passed c = and-both _ _ (both-good _ (c .before .before .are-tables-read .ensures) (c .before .if1 .left))
 
 -- the lengths of the mesh and of the q matrix
-lengths : (c : tie.After-anchoring-of) → (length (c .before .before .before .before .before .before .before .before .before .before .before .before .before .before .before .before .args .mesh .now) ≡ 3) × (length (c .before .before .before .before .before .before .before .before .before .before .before .before .before .before .before .before .args .matrix .now) ≡ 9)
-lengths c = grid-lengths _ _ _ _ _ (sym (c .before .before .are-tables-read .ensures) ∙ passed c .0)
+lengths : (c : tie.After-anchoring-of) → (length (entry c .args .mesh .now) ≡ 3) × (length (entry c .args .matrix .now) ≡ 9)
+lengths c = grid-lengths _ _ _ _ _ (passed c .0)
 
 anchoring-of-requires : tie.Need-anchoring-of-requires
 anchoring-of-requires c κs = search needs
@@ -93,7 +96,7 @@ same-length-3 c = search needs
 returns-2 : tie.Need-returns-2
 returns-2 c =
     let s = c .before .before .before .before .before .before .before .before .before .before .before .before .before .before .before .before .before .before .before .before .before .before .before .before .before .before .before .before .before .before .before .before in
-    joined-answered _ (handed s) _ (rw (sym (c .before .before .before .before .before .before .before .before .before .before .before .before .before .before .before .before .before .before .are-tables-read .ensures)) (not-false _ (c .before .before .before .before .before .before .before .before .before .before .before .before .before .before .before .before .before .if1 .left)))
+    joined-answered _ (handed s) _ (both-good _ (c .before .before .before .before .before .before .before .before .before .before .before .before .before .before .before .before .before .before .are-tables-read .ensures) (c .before .before .before .before .before .before .before .before .before .before .before .before .before .before .before .before .before .if1 .left))
     (c .before .before .before .before .before .before .before .joined-at-triplet .ensures)
     (joined-same (handed s) _ _ _
     (tables-same (handed s .tables) _ _ _ _ _ (c .before .before .before .before .before .before .before .before .before .before .before .before .before .before .before .before .anchoring-of .ensures) (c .before .before .before .before .before .before .before .before .before .before .before .before .before .before .before .form-of .ensures) (c .before .before .before .before .before .before .before .before .before .before .before .before .before .before .symmetry-of .ensures) (c .before .before .before .before .before .before .before .before .before .before .before .before .before .three .ensures) (c .before .before .before .before .before .before .before .before .before .before .before .before .nine .ensures))
