@@ -14,7 +14,9 @@ use Rattle.phonon.specs.Doors.{JoinedOutcome, answerFor, joinedLeaves, joinedOu
 use Rattle.phonon.proofs.Accepted.{Measured, measured-facts, passed}
 use Rattle.carton.specs.declared.heading.Heading.{Heading}
 use Rattle.carton.specs.Fitted.{Fitted}
+use Rattle.carton.specs.Most.{mostWork}
 use Rattle.carton.specs.Tables.{Columns, setIn}
+use Rattle.text.specs.Room.{mostKeyBands}
 
 accepts : (n : ℕ) (s : JoinedSet) → joinedLeaves n s .answer ≡ Accepted → n ≡ 0
 unfolding joinedLeaves answerFor
@@ -26,7 +28,7 @@ unfolding joinedOutcome joinedRefusal
 measures-of s e = measured-facts _ (passed _ _ (omega arith) (accepts (joinedRefusal s) s e) .0)
 
 -- with its work buffer in 6,144 numbers
-pub three-atoms : (p s : ℕ) → workLength p s ≤ 6144 → p ≤ 3
+pub three-atoms : (p s : ℕ) → workLength p s ≤ mostWork → p ≤ 3
 unfolding workLength
 three-atoms p s h = go (decLe 4 p)
   where
@@ -39,8 +41,8 @@ three-atoms p s h = go (decLe 4 p)
 
 -- so there are few lines
 pub record Few (h : Heading) : Type 0 where
-  pub bands : bandsOf (h .measures) ≤ 9
-  pub first : h .measures .first ≤ 9
+  pub bands : bandsOf (h .measures) ≤ mostKeyBands
+  pub first : h .measures .first ≤ mostKeyBands
 
 pub few : (w : Columns) (h : Heading) (n : ℕ) (v u k : List Float) (o : JoinedOutcome) → Fitted h n → o ≡ joinedOutcome (setIn w h v u k) → o .answer ≡ Accepted → Few h
 unfolding setIn

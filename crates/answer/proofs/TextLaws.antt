@@ -1,12 +1,15 @@
 -- The text of a set by the door's answer, and the text of a file by its tests.
-use Prim.Native.Nat.{ℕ}
-use mathlib.Core.Bool.{true, false}
+use Prim.Native.Nat.{ℕ, _%_, _≤_}
+use mathlib.Core.Bool.{true, false, _&&_, and-false}
 use mathlib.Core.Path.{_≡_, refl, sym, _∙_, ap}
 use mathlib.Core.List.{List}
 use native.Mathlib.Omega.{arith}
 use lib.Ieee.{Float}
 use lib.IntN.{ℤ}
-use lib.ListN.{length, length-take}
+use borrow.Author.Tests.{lt-leb}
+use lib.Dec.{leb, eqb}
+use lib.ListN.{length, take, length-take}
+use lib.Seq.{length-take-le}
 use Rattle.phonon.specs.declared.Answer.the-variants.{Accepted, Refused}
 use Rattle.phonon.specs.Sets.{JoinedSet, bandsOf, slots}
 use Rattle.phonon.specs.Doors.{JoinedOutcome, joinedOutcome}
@@ -14,19 +17,20 @@ use Rattle.carton.specs.declared.heading.Heading.{Heading}
 use Rattle.carton.specs.declared.heading.Read.{Read}
 use Rattle.carton.specs.declared.heading.Read.the-variants.{Good, Wrong}
 use Rattle.carton.specs.Blocks.{sizeOk, blocksOk}
+use Rattle.carton.specs.Most.{mostWork}
 use Rattle.carton.specs.Words.{wordsOf, floatsOf, intsOf, bytesOf}
 use Rattle.carton.specs.Heading.{slice, readOf}
 use Rattle.carton.specs.Tables.{Columns, columnsOf, setIn}
 use Rattle.carton.proofs.FileLaws.{file-10, file-11, file-12, file-read}
 use Rattle.carton.proofs.HeadingLaws.{read-good, read-wrong}
 use Rattle.io.specs.Counts.{Counts}
-use Rattle.text.specs.Lines.{refusedLine, acceptedText, answeredText}
+use Rattle.text.specs.Lines.{refusedLine, acceptedText, answeredText, setText}
 use Rattle.text.specs.Wrote.{Wrote}
-use Rattle.answer.specs.Text.{zeros, startOf, setText, fileText, answerText}
+use Rattle.answer.specs.Text.{zeros, startOf, fileText, answerText}
 
 -- ---- the set
 
-module _ (w : Columns) (h : Heading) (v u k : List Float) (ev : v ≡ zeros (slots (h .measures))) (eu : u ≡ zeros (h .measures .first)) (ek : k ≡ zeros 6144)
+module _ (w : Columns) (h : Heading) (v u k : List Float) (ev : v ≡ zeros (slots (h .measures))) (eu : u ≡ zeros (h .measures .first)) (ek : k ≡ zeros mostWork)
     (o : JoinedOutcome) (e : o ≡ joinedOutcome (setIn w h v u k)) where
   starts : setIn w h v u k ≡ startOf w h
   unfolding startOf
@@ -74,6 +78,15 @@ module _ (s : List ℕ) where
       answer-read h g =
           let t = read-good (wordsOf s) h (sym g ∙ told) in
           rw (file-read s a b (t .0), e, t .1) refl
+
+-- 96 blocks have 49,152 bytes
+too-long : (s : List ℕ) → 49153 ≤ length s → sizeOk s ≡ false
+unfolding sizeOk
+too-long s h = rw (lt-leb (length s) 49152 h) (and-false (leb 1 (length s) && eqb (length s % 512) 0))
+
+-- what `key` reads of a longer file is answered as the whole would be
+pub long-file : (s : List ℕ) → 49153 ≤ length s → answerText (take 49153 s) ≡ answerText s
+long-file s h = sym (answer-10 (take 49153 s) (too-long (take 49153 s) (omega (arith, length-take-le 49153 s h)))) ∙ answer-10 s (too-long s h)
 
 -- a text from the start of a buffer, as a count of the buffer's bytes
 pub with-count : {t line u : List ℕ} {r : ℕ} → Wrote t 0 line u r → Wrote t 0 line u r × Counts r u

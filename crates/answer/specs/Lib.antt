@@ -1,1 +1,2 @@
+-- What `key` prints for any file.
 pub mod Text

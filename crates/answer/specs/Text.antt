@@ -5,24 +5,20 @@ use lib.Ieee.{Float}
 use lib.ListN.{replicate}
 use Rattle.phonon.specs.Number.{f0}
 use Rattle.phonon.specs.Sets.{slots, JoinedSet}
-use Rattle.phonon.specs.Doors.{joinedOutcome}
 use Rattle.carton.specs.declared.heading.Heading.{Heading}
+use Rattle.carton.specs.Most.{mostWork}
 use Rattle.carton.specs.Words.{wordsOf}
 use Rattle.carton.specs.Heading.{headingIn}
 use Rattle.carton.specs.Tables.{Columns, columnsOf, setIn}
 use Rattle.carton.specs.File.{fileRefusal}
-use Rattle.text.specs.Lines.{refusedLine, answeredText}
+use Rattle.text.specs.Lines.{refusedLine, setText}
 
 abbrev pub zeros : ℕ → List Float
 zeros n = replicate n f0
 
--- a carton's set: strengths and totals start at 0.0, and so do the 6,144 numbers of the work buffer
+-- a carton's set: strengths and totals start at 0.0, and so does the work buffer
 unfoldable pub startOf : Columns → Heading → JoinedSet
-startOf w h = setIn w h (zeros (slots (h .measures))) (zeros (h .measures .first)) (zeros 6144)
-
--- what the joined door leaves of a set, as text
-unfoldable pub setText : JoinedSet → List ℕ
-setText s = answeredText (joinedOutcome s .answer) s (joinedOutcome s)
+startOf w h = setIn w h (zeros (slots (h .measures))) (zeros (h .measures .first)) (zeros mostWork)
 
 -- the text of a file that is refused with n, or read
 unfoldable pub fileText : ℕ → List ℕ → List ℕ

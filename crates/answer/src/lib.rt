@@ -10,10 +10,13 @@ ghost use lib.ListN.{length};
 ghost use Rattle.phonon.specs.Sets.{slots};
 ghost use Rattle.carton.specs.Blocks.{sizeOk, blocksOk};
 ghost use Rattle.carton.specs.Fitted.{Fitted};
+ghost use Rattle.carton.specs.Most.{mostWords, mostWork};
 ghost use Rattle.carton.specs.Tables.{columnsOf};
 ghost use Rattle.io.specs.Counts.{Counts};
+ghost use Rattle.text.specs.Lines.{setText};
+ghost use Rattle.text.specs.Room.{acceptedRoom};
 ghost use Rattle.text.specs.Wrote.{Wrote};
-ghost use Rattle.answer.specs.Text.{zeros, startOf, setText, answerText};
+ghost use Rattle.answer.specs.Text.{zeros, startOf, answerText};
 
 // The text of a carton's set, from every word as an f64, as an integer and as a byte.
 fn set_text(
@@ -31,8 +34,8 @@ fn set_text(
         × (length (now bytes) ≡ length (now floats))
         × (now strengths ≡ zeros (slots (h .measures)))
         × (now totals ≡ zeros (h .measures .first))
-        × (now work ≡ zeros 6144)
-        × (25039 ≤ length (now text)) ⌝ }
+        × (now work ≡ zeros mostWork)
+        × (acceptedRoom ≤ length (now text)) ⌝ }
     ensures { λ r. ⌜ Wrote (now (text .entry)) 0
         (setText (startOf (record { floats = now (floats .entry); ints = now (ints .entry); bytes = now (bytes .entry) }) h))
         (now (text .exit)) r ⌝ }
@@ -53,11 +56,11 @@ fn set_text(
                 totals,
             )
         }
-        Answer::Refused(n) => text::put_refused(text, n as usize),
+        Answer::Refused(n) => text::put_refused(text, n),
     }
 }
 
-// The text of a carton whose words are read.
+// The text of a carton whose words are read, with columns and buffers that are lent.
 fn words_text(
     h: Heading,
     words: &[u64],
@@ -75,8 +78,8 @@ fn words_text(
         × (length (now bytes) ≡ length (now words))
         × (now strengths ≡ zeros (slots (h .measures)))
         × (now totals ≡ zeros (h .measures .first))
-        × (now work ≡ zeros 6144)
-        × (25039 ≤ length (now text)) ⌝ }
+        × (now work ≡ zeros mostWork)
+        × (acceptedRoom ≤ length (now text)) ⌝ }
     ensures { λ r. ⌜ Wrote (now (text .entry)) 0 (setText (startOf (columnsOf (now (words .entry))) h)) (now (text .exit)) r ⌝ }
 {
     carton::read_floats(words, floats);
@@ -88,38 +91,38 @@ fn words_text(
 // ---- arrays of zeros; their lengths are all that is asked of some
 
 fn zero_floats() -> [f64; 6048]
-    ensures { λ r. ⌜ r ≡ zeros 6048 ⌝ }
+    ensures { λ r. ⌜ r ≡ zeros mostWords ⌝ }
 {
     [0.0; 6048]
 }
 
 fn zero_work() -> [f64; 6144]
-    ensures { λ r. ⌜ r ≡ zeros 6144 ⌝ }
+    ensures { λ r. ⌜ r ≡ zeros mostWork ⌝ }
 {
     [0.0; 6144]
 }
 
 fn zero_ints() -> [i64; 6048]
-    ensures { λ r. ⌜ 6048 ≡ length r ⌝ }
+    ensures { λ r. ⌜ mostWords ≡ length r ⌝ }
 {
     [0; 6048]
 }
 
 fn zero_bytes() -> [u8; 6048]
-    ensures { λ r. ⌜ 6048 ≡ length r ⌝ }
+    ensures { λ r. ⌜ mostWords ≡ length r ⌝ }
 {
     [0; 6048]
 }
 
 fn zero_words() -> [u64; 6048]
-    ensures { λ r. ⌜ 6048 ≡ length r ⌝ }
+    ensures { λ r. ⌜ mostWords ≡ length r ⌝ }
 {
     [0; 6048]
 }
 
-// The same, in arrays of its own.
+// The text of a carton whose words are read; columns and buffers are arrays of its own.
 fn heading_text(h: Heading, words: &[u64], text: &mut [u8]) -> usize
-    requires { ⌜ Fitted h (length (now words)) × (25039 ≤ length (now text)) ⌝ }
+    requires { ⌜ Fitted h (length (now words)) × (acceptedRoom ≤ length (now text)) ⌝ }
     ensures { λ r. ⌜ Wrote (now (text .entry)) 0 (setText (startOf (columnsOf (now (words .entry))) h)) (now (text .exit)) r ⌝ }
 {
     let n = words.len();
@@ -151,7 +154,7 @@ fn blocks_text(input: &[u8], words: &mut [u64], text: &mut [u8]) -> usize
     requires { ⌜ (sizeOk (now input) ≡ true)
         × (blocksOk (now input) ≡ true)
         × (length (now words) ≡ 63 * (length (now input) / 512))
-        × (25039 ≤ length (now text)) ⌝ }
+        × (acceptedRoom ≤ length (now text)) ⌝ }
     ensures { λ r. ⌜ Wrote (now (text .entry)) 0 (answerText (now (input .entry))) (now (text .exit)) r ⌝ }
 {
     carton::read_words(input, words);

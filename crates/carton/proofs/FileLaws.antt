@@ -9,13 +9,14 @@ use lib.ListN.{length}
 use borrow.Author.Tests.{leb-true, eqb-true}
 use Rattle.phonon.specs.Refusal.{firstFailed}
 use Rattle.checks.proofs.Laws.{and-left, and-right}
+use Rattle.carton.specs.Most.{mostWords}
 use Rattle.carton.specs.Blocks.{sizeOk, blocksOk}
 use Rattle.carton.specs.Words.{wordsOf}
 use Rattle.carton.specs.Heading.{headingOk}
 use Rattle.carton.specs.File.{fileRefusal}
 
 -- one block at least, and at most 96
-pub word-count : (s : List ℕ) → sizeOk s ≡ true → (63 ≤ 63 * (length s / 512)) × (63 * (length s / 512) ≤ 6048)
+pub word-count : (s : List ℕ) → sizeOk s ≡ true → (63 ≤ 63 * (length s / 512)) × (63 * (length s / 512) ≤ mostWords)
 unfolding sizeOk
 word-count s e =
     let a = leb 1 (length s) in

@@ -15,13 +15,14 @@ use Rattle.phonon.specs.declared.Symmetry.{Symmetry}
 use Rattle.phonon.specs.declared.Form.{Form}
 use Rattle.phonon.specs.Sets.{slots}
 use Rattle.phonon.specs.Limits.{sizesOf, workLength}
+use Rattle.carton.specs.Most.{mostWords, mostWork}
 use Rattle.carton.specs.declared.heading.Places.{Places}
 use Rattle.carton.specs.declared.heading.Heading.{Heading}
 use Rattle.carton.specs.declared.heading.Read.the-variants.{Good, Wrong}
 use Rattle.carton.specs.Heading.{edition, measuresIn, flagBits, formOf, anchoringOf, symmetryOf, placesWith, placesOf, headingIn, measuresNatural, filled, wordsMatch, headingOk, readAs, readOf}
 use Rattle.carton.specs.Small.{smallOk}
 use Rattle.carton.specs.Fitted.{Fitted}
-use Rattle.carton.proofs.MeasureLaws.{ordered, measures-before, not-small, naturals}
+use Rattle.carton.proofs.MeasureLaws.{placed, measures-before, not-small, naturals}
 
 -- the rest of a list, as the code lends it
 pub rest : (l : List ℕ) (n : ℕ) → take (length l - n) (drop n l) ≡ drop n l
@@ -49,7 +50,7 @@ module _ (ws : List ℕ) (s : Bool) (e : s ≡ smallOk (measuresIn ws)) where
   abbrev Match : Bool
   Match = wordsMatch ws (measuresIn ws) (placesOf (measuresIn ws) (formOf (flagBits ws)))
 
-  pub tests-wrong : length ws ≤ 6048 → Tests ≡ false → Wrong ≡ readOf ws
+  pub tests-wrong : length ws ≤ mostWords → Tests ≡ false → Wrong ≡ readOf ws
   unfolding readOf headingOk
   tests-wrong h t =
       rw
@@ -103,12 +104,12 @@ pub read-wrong : (ws : List ℕ) → Wrong ≡ readOf ws → headingOk ws ≡ fa
 unfolding readOf
 read-wrong ws e = missed (headingOk ws) (headingIn ws) e
 
-matched : (ws : List ℕ) (m : Measures) (p : Places) → wordsMatch ws m p ≡ true → (p .end ≤ length ws) × (workLength (m .atoms) (m .supercell) ≤ 6144)
+matched : (ws : List ℕ) (m : Measures) (p : Places) → wordsMatch ws m p ≡ true → (p .end ≤ length ws) × (workLength (m .atoms) (m .supercell) ≤ mostWork)
 unfolding wordsMatch
 matched ws m p e =
     let n = eqb-true (length ws) (filled (p .end)) (and-left (eqb (length ws) (filled (p .end))) _ e) in
     let r = and-right (eqb (length ws) (filled (p .end))) _ e in
-    (omega arith, leb-true _ _ (and-left (leb (workLength (m .atoms) (m .supercell)) 6144) _ r))
+    (omega arith, leb-true _ _ (and-left (leb (workLength (m .atoms) (m .supercell)) mostWork) _ r))
 
 flags-at : (m : Measures) (form : Form) → placesOf m form .constants ≡ placesOf m form .flags + slots m
 unfolding placesWith sizesOf
@@ -118,7 +119,7 @@ second-at : (m : Measures) (form : Form) → placesOf m form .end ≡ placesOf m
 unfolding placesWith sizesOf
 second-at m form = refl
 
-pub fitted : (ws : List ℕ) (h : Heading) → length ws ≤ 6048 → Good h ≡ readOf ws → Fitted h (length ws)
+pub fitted : (ws : List ℕ) (h : Heading) → length ws ≤ mostWords → Good h ≡ readOf ws → Fitted h (length ws)
 unfolding headingOk headingIn
 fitted ws h few e =
     let r = read-good ws h e in
@@ -130,8 +131,7 @@ fitted ws h few e =
     let f = matched ws m p (and-right (measuresNatural m) (wordsMatch ws m p) e2) in
     rw (r .1)
     (record {
-      ordered = ordered m form p refl;
-      within = f .0;
+      tables = placed m form p (length ws) refl (f .0);
       few = few;
       first = measures-before m form (omega arith) .first;
       flags = flags-at m form;

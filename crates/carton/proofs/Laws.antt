@@ -5,7 +5,7 @@ use mathlib.Core.Path.{_≡_, refl, sym, _∙_, ap}
 use mathlib.Core.List.{List}
 use native.Mathlib.Numerals.{add-one}
 use native.Mathlib.Omega.{arith}
-use lib.ListN.{length, take, set}
+use lib.ListN.{length, take, set, length-set}
 use lib.Seq.{take-suc-set, take-all}
 use lib.IntN.{pos, negsuc, _-ℤ_}
 use mir.Val.{toZ, ofZ, SFits}
@@ -14,21 +14,37 @@ use mir.Syntax.{w64}
 use borrow.Author.Tests.{lt-ltb, le-ltb}
 use lib.Ieee.{nan, binary64, ofBits, nanBits}
 use lib.Ieee.Bits.{nanBits-is}
-use Rattle.phonon.specs.Number.{table}
+use Rattle.phonon.specs.Number.{table, tableFrom}
 use Rattle.phonon.proofs.Laws.{table-snoc}
 use Rattle.phonon.proofs.Order.{is-nan}
 use Rattle.carton.specs.Words.{intOf}
 
-module _ {A : Type 0} (f : ℕ → A) where
+-- after i turns a list of n entries holds the first i of a table
+pub record Filled {A : Type 0} (f : ℕ → A) (n : ℕ) (l : List A) (i : ℕ) : Type 0 where
+  pub most : i ≤ n
+  pub long : length l ≡ n
+  pub written : take i l ≡ table i f
+
+module _ {A : Type 0} {f : ℕ → A} {n : ℕ} {l : List A} where
+  pub filled-none : length l ≡ n → Filled f n l 0
+  unfolding table tableFrom
+  filled-none e = record { most = omega arith; long = e; written = refl }
+
   -- one entry more
-  pub table-more : (l : List A) (i : ℕ) (x : A) → i < length l → take i l ≡ table i f → x ≡ f i → take (i + 1) (set l i x) ≡ table (i + 1) f
-  table-more l i x h e v = rw table-snoc (rw (add-one, take-suc-set l i x h, e, v) refl)
+  pub filled-more : {i : ℕ} {x : A} → i < n → x ≡ f i → Filled f n l i → Filled f n (set l i x) (i + 1)
+  filled-more {i} {x} h v d =
+      let k : i < length l = omega arith in
+      record {
+        most = omega arith;
+        long = simp length-set (d .long);
+        written = rw table-snoc (rw (add-one, take-suc-set l i x k, d .written, v) refl);
+      }
 
   -- the whole table
-  pub table-whole : (l : List A) (n i : ℕ) → length l ≡ n → n ≤ i → i ≤ n → take i l ≡ table i f → l ≡ table n f
-  table-whole l n i e h k t =
+  pub filled-whole : {i : ℕ} → n ≤ i → Filled f n l i → l ≡ table n f
+  filled-whole {i} h d =
       let same : i ≡ n = omega arith in
-      sym (take-all n l (omega arith)) ∙ rw same at t
+      sym (take-all n l (omega arith)) ∙ rw same at (d .written)
 
 -- ---- floats
 

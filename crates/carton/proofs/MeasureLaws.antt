@@ -15,26 +15,27 @@ use Rattle.phonon.specs.Limits.{sizesOf}
 use Rattle.checks.specs.Modest.{Modest}
 use Rattle.checks.proofs.Laws.{and-left, and-right}
 use Rattle.checks.proofs.SizeLaws.{products}
+use Rattle.carton.specs.Most.{mostWords}
 use Rattle.carton.specs.declared.heading.Places.{Places}
 use Rattle.carton.specs.Heading.{filled, placesWith, placesOf, measuresNatural, wordsMatch}
-use Rattle.carton.specs.Fitted.{Ordered}
+use Rattle.carton.specs.Fitted.{Placed}
 use Rattle.carton.specs.Small.{smallOk}
 
 pub record Small (m : Measures) : Type 0 where
-  pub atoms : m .atoms ≤ 6048
-  pub supercell : m .supercell ≤ 6048
-  pub first : m .first ≤ 6048
-  pub grid : m .grid ≤ 6048
-  pub vectors : m .vectors ≤ 6048
+  pub atoms : m .atoms ≤ mostWords
+  pub supercell : m .supercell ≤ mostWords
+  pub first : m .first ≤ mostWords
+  pub grid : m .grid ≤ mostWords
+  pub vectors : m .vectors ≤ mostWords
 
 small : (m : Measures) → smallOk m ≡ true → Small m
 unfolding smallOk
 small m e =
-    let p = leb (m .atoms) 6048 in
-    let s = leb (m .supercell) 6048 in
-    let f = leb (m .first) 6048 in
-    let g = leb (m .grid) 6048 in
-    let v = leb (m .vectors) 6048 in
+    let p = leb (m .atoms) mostWords in
+    let s = leb (m .supercell) mostWords in
+    let f = leb (m .first) mostWords in
+    let g = leb (m .grid) mostWords in
+    let v = leb (m .vectors) mostWords in
     let d = and-left (((p && s) && f) && g) v e in
     let c = and-left ((p && s) && f) g d in
     let b = and-left (p && s) f c in
@@ -90,30 +91,31 @@ sized m form z e q =
 
 -- ---- places
 
-pub ordered : (m : Measures) (form : Form) (p : Places) → p ≡ placesOf m form → Ordered p
+pub placed : (m : Measures) (form : Form) (p : Places) (n : ℕ) → p ≡ placesOf m form → p .end ≤ n → Placed p n
 unfolding placesWith
-ordered m form p e =
+placed m form p n e h =
+    let k = rw e at h in
     rw e
     (record {
-      vectors = omega arith;
-      multiplicity = omega arith;
-      p2s = omega arith;
-      s2p = omega arith;
-      masses = omega arith;
-      bands = omega arith;
-      frequencies = omega arith;
-      eigenvectors = omega arith;
-      shortest = omega arith;
-      nonzero = omega arith;
-      flags = omega arith;
-      constants = omega arith;
-      first = omega arith;
-      second = omega arith;
-      end = omega arith;
+      addresses = record { order = omega arith; inside = omega arith };
+      vectors = record { order = omega arith; inside = omega arith };
+      multiplicity = record { order = omega arith; inside = omega arith };
+      p2s = record { order = omega arith; inside = omega arith };
+      s2p = record { order = omega arith; inside = omega arith };
+      masses = record { order = omega arith; inside = omega arith };
+      bands = record { order = omega arith; inside = omega arith };
+      frequencies = record { order = omega arith; inside = omega arith };
+      eigenvectors = record { order = omega arith; inside = omega arith };
+      shortest = record { order = omega arith; inside = omega arith };
+      nonzero = record { order = omega arith; inside = omega arith };
+      flags = record { order = omega arith; inside = omega arith };
+      constants = record { order = omega arith; inside = omega arith };
+      first = record { order = omega arith; inside = omega arith };
+      second = record { order = omega arith; inside = omega arith };
     })
 
 -- each measure has a table at least as long
-pub measures-before : (m : Measures) (form : Form) → placesOf m form .end ≤ 6048 → Small m
+pub measures-before : (m : Measures) (form : Form) → placesOf m form .end ≤ mostWords → Small m
 unfolding placesWith sizesOf
 measures-before m form h =
     record { atoms = omega arith; supercell = omega arith; first = omega arith; grid = omega arith; vectors = omega arith }
@@ -122,11 +124,11 @@ measures-before m form h =
 pub too-few : (n end : ℕ) → n < end → eqb n (filled end) ≡ false
 too-few n end h = ne-eqb _ _ (λ (e : n ≡ filled end). omega arith)
 
-pub not-small : (ws : List ℕ) (m : Measures) (form : Form) → length ws ≤ 6048 → smallOk m ≡ false → wordsMatch ws m (placesOf m form) ≡ false
+pub not-small : (ws : List ℕ) (m : Measures) (form : Form) → length ws ≤ mostWords → smallOk m ≡ false → wordsMatch ws m (placesOf m form) ≡ false
 unfolding wordsMatch
-not-small ws m form h e = go (decLe (placesOf m form .end) 6048)
+not-small ws m form h e = go (decLe (placesOf m form .end) mostWords)
   where
-    go : Dec (placesOf m form .end ≤ 6048) → wordsMatch ws m (placesOf m form) ≡ false
+    go : Dec (placesOf m form .end ≤ mostWords) → wordsMatch ws m (placesOf m form) ≡ false
     go (yes k) = absurd (let z : true ≡ false = sym (is-small m (measures-before m form k)) ∙ e in let y : _≡_ {A = ℕ} 0 1 = cc in omega arith)
     go (no k) = rw (too-few (length ws) (placesOf m form .end) (omega arith)) refl
 

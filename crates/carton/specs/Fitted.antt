@@ -3,33 +3,38 @@ use Prim.Native.Nat.{ℕ, _+_, _≤_}
 use mathlib.Core.Path.{_≡_}
 use Rattle.phonon.specs.Sets.{slots}
 use Rattle.phonon.specs.Limits.{workLength}
+use Rattle.carton.specs.Most.{mostWords, mostWork}
 use Rattle.carton.specs.declared.heading.Places.{Places}
 use Rattle.carton.specs.declared.heading.Heading.{Heading}
 
--- the tables stand one behind the other
-pub record Ordered (p : Places) : Type 0 where
-  pub vectors : 25 ≤ p .vectors
-  pub multiplicity : p .vectors ≤ p .multiplicity
-  pub p2s : p .multiplicity ≤ p .p2s
-  pub s2p : p .p2s ≤ p .s2p
-  pub masses : p .s2p ≤ p .masses
-  pub bands : p .masses ≤ p .bands
-  pub frequencies : p .bands ≤ p .frequencies
-  pub eigenvectors : p .frequencies ≤ p .eigenvectors
-  pub shortest : p .eigenvectors ≤ p .shortest
-  pub nonzero : p .shortest ≤ p .nonzero
-  pub flags : p .nonzero ≤ p .flags
-  pub constants : p .flags ≤ p .constants
-  pub first : p .constants ≤ p .first
-  pub second : p .first ≤ p .second
-  pub end : p .second ≤ p .end
+-- a table of entries a to e - 1 among n words
+pub record Table (a e n : ℕ) : Type 0 where
+  pub order : a ≤ e
+  pub inside : e ≤ n
 
--- of a file of n words
+-- the tables of a file of n words
+pub record Placed (p : Places) (n : ℕ) : Type 0 where
+  pub addresses : Table 25 (p .vectors) n
+  pub vectors : Table (p .vectors) (p .multiplicity) n
+  pub multiplicity : Table (p .multiplicity) (p .p2s) n
+  pub p2s : Table (p .p2s) (p .s2p) n
+  pub s2p : Table (p .s2p) (p .masses) n
+  pub masses : Table (p .masses) (p .bands) n
+  pub bands : Table (p .bands) (p .frequencies) n
+  pub frequencies : Table (p .frequencies) (p .eigenvectors) n
+  pub eigenvectors : Table (p .eigenvectors) (p .shortest) n
+  pub shortest : Table (p .shortest) (p .nonzero) n
+  pub nonzero : Table (p .nonzero) (p .flags) n
+  pub flags : Table (p .flags) (p .constants) n
+  pub constants : Table (p .constants) (p .first) n
+  pub first : Table (p .first) (p .second) n
+  pub second : Table (p .second) (p .end) n
+
+-- the heading of a file of n words
 pub record Fitted (h : Heading) (n : ℕ) : Type 0 where
-  pub ordered : Ordered (h .places)
-  pub within : h .places .end ≤ n
-  pub few : n ≤ 6048
-  pub first : h .measures .first ≤ 6048
+  pub tables : Placed (h .places) n
+  pub few : n ≤ mostWords
+  pub first : h .measures .first ≤ mostWords
   pub flags : h .places .constants ≡ h .places .flags + slots (h .measures)
   pub second : h .places .end ≡ h .places .second + slots (h .measures)
-  pub work : workLength (h .measures .atoms) (h .measures .supercell) ≤ 6144
+  pub work : workLength (h .measures .atoms) (h .measures .supercell) ≤ mostWork

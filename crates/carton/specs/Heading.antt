@@ -13,6 +13,7 @@ use Rattle.phonon.specs.declared.Anchoring.the-variants.{Plain, Averaged}
 use Rattle.phonon.specs.declared.Symmetry.{Symmetry}
 use Rattle.phonon.specs.declared.Symmetry.the-variants.{Off, Symmetrized}
 use Rattle.phonon.specs.Limits.{sizesOf, workLength}
+use Rattle.carton.specs.Most.{mostWork}
 use Rattle.carton.specs.Words.{allBelow}
 use Rattle.carton.specs.declared.heading.Places.{Places}
 use Rattle.carton.specs.declared.heading.Heading.{Heading}
@@ -114,7 +115,7 @@ filled n = 63 * ((n + 62) / 63)
 unfoldable pub wordsMatch : List ℕ → Measures → Places → Bool
 wordsMatch ws m p =
     eqb (length ws) (filled (p .end))
-    && (leb (workLength (m .atoms) (m .supercell)) 6144
+    && (leb (workLength (m .atoms) (m .supercell)) mostWork
     && (allBelow 256 (slice (p .shortest) (p .constants) ws) && allBelow 1 (drop (p .end) ws)))
 
 unfoldable pub headingOk : List ℕ → Bool

@@ -1,3 +1,5 @@
+-- Document 01's carton file.
+pub mod Most
 pub mod Blocks
 pub mod Words
 pub mod Heading
@@ -5,4 +7,3 @@ pub mod Tables
 pub mod Small
 pub mod Fitted
 pub mod File
-pub mod Seal

@@ -2,8 +2,9 @@
 use mathlib.Core.Bool.{Bool, _&&_}
 use lib.Dec.{leb}
 use Rattle.phonon.specs.declared.Measures.{Measures}
+use Rattle.carton.specs.Most.{mostWords}
 
--- no measure is above 6,048, the words of 96 blocks
+-- no measure is above the words of 96 blocks
 unfoldable pub smallOk : Measures → Bool
 smallOk m =
-    (((leb (m .atoms) 6048 && leb (m .supercell) 6048) && leb (m .first) 6048) && leb (m .grid) 6048) && leb (m .vectors) 6048
+    (((leb (m .atoms) mostWords && leb (m .supercell) mostWords) && leb (m .first) mostWords) && leb (m .grid) mostWords) && leb (m .vectors) mostWords

@@ -4,12 +4,14 @@ ghost use Prim.Native.Nat.{_+_, _*_, _≤_, _<_};
 ghost use lib.ListN.{length};
 ghost use Rattle.carton.specs.Blocks.{fourAt, eightAt, sizeOk, checkOf, blockOk, blocksOk};
 
+// A byte as a number to sum.
 fn wide(b: u8) -> u64
     ensures { λ r. ⌜ (r ≡ b) × (r < 256) ⌝ }
 {
     b as u64
 }
 
+// The little-endian number of four bytes from byte i on.
 pub fn four_at(s: &[u8], i: usize) -> u64
     requires { ⌜ i + 4 ≤ length (now s) ⌝ }
     ensures { λ r. ⌜ (r ≡ fourAt (now (s .entry)) i) × (r < 4294967296) ⌝ }
@@ -17,6 +19,7 @@ pub fn four_at(s: &[u8], i: usize) -> u64
     wide(s[i]) + 256 * wide(s[i + 1]) + 65536 * wide(s[i + 2]) + 16777216 * wide(s[i + 3])
 }
 
+// The little-endian number of eight bytes from byte i on.
 pub fn eight_at(s: &[u8], i: usize) -> u64
     requires { ⌜ i + 8 ≤ length (now s) ⌝ }
     ensures { λ r. ⌜ r ≡ eightAt (now (s .entry)) i ⌝ }
@@ -44,6 +47,7 @@ fn check_of(s: &[u8], i: usize) -> u64
     sum % 4294967296
 }
 
+// The number and the check of block b.
 fn block_ok(s: &[u8], b: usize) -> bool
     requires { ⌜ 512 * b + 512 ≤ length (now s) ⌝ }
     ensures { λ r. ⌜ r ≡ blockOk (now (s .entry)) b ⌝ }

@@ -11,6 +11,7 @@ ghost use mathlib.Core.Bool.{true};
 ghost use Prim.Native.Nat.{_≤_};
 ghost use lib.ListN.{length};
 ghost use Rattle.carton.specs.Heading.{formOf, anchoringOf, symmetryOf, placesOf, wordsMatch, readOf};
+ghost use Rattle.carton.specs.Most.{mostWords};
 ghost use Rattle.carton.specs.Small.{smallOk};
 
 // Where each table starts, the addresses at word 25, and where the last one ends.
@@ -32,6 +33,7 @@ pub struct Places {
     pub end: usize,
 }
 
+// What words 0 to 6 say, and the places that follow from it.
 pub struct Heading {
     pub measures: Measures,
     pub form: Form,
@@ -40,6 +42,7 @@ pub struct Heading {
     pub places: Places,
 }
 
+// The heading of a file, or number 12.
 pub enum Read {
     Good(Heading),
     Wrong,
@@ -90,6 +93,7 @@ fn is_small(m: Measures) -> bool
         & (m.vectors <= 6048)
 }
 
+// The tables stand one behind the other, each as long as the measures say.
 fn places_of(m: Measures, form: Form) -> Places
     requires { ⌜ smallOk m ≡ true ⌝ }
     ensures { λ r. ⌜ r ≡ placesOf m form ⌝ }
@@ -130,8 +134,9 @@ fn places_of(m: Measures, form: Form) -> Places
 
 // ---- number 12
 
+// The blocks are just those needed, W is small enough, the flag tables hold bytes, and zeros follow the last table.
 fn words_match(words: &[u64], m: Measures, form: Form, p: Places) -> bool
-    requires { ⌜ (length (now words) ≤ 6048) × (smallOk m ≡ true) × (p ≡ placesOf m form) ⌝ }
+    requires { ⌜ (length (now words) ≤ mostWords) × (smallOk m ≡ true) × (p ≡ placesOf m form) ⌝ }
     ensures { λ r. ⌜ r ≡ wordsMatch (now (words .entry)) m p ⌝ }
 {
     let end = p.end;
@@ -149,8 +154,9 @@ fn words_match(words: &[u64], m: Measures, form: Form, p: Places) -> bool
     all_below(256, &words[shortest..constants]) & all_below(1, &words[end..])
 }
 
+// The heading of a file of these words, each test of number 12 made before the next step rests on it.
 pub fn heading_of(words: &[u64]) -> Read
-    requires { ⌜ (63 ≤ length (now words)) × (length (now words) ≤ 6048) ⌝ }
+    requires { ⌜ (63 ≤ length (now words)) × (length (now words) ≤ mostWords) ⌝ }
     ensures { λ r. ⌜ r ≡ readOf (now (words .entry)) ⌝ }
 {
     let edition = words[0];

@@ -2,7 +2,7 @@
 use Prim.Native.Nat.{ℕ}
 use mathlib.Core.Bool.{true}
 use mathlib.Core.Path.{_≡_, refl}
-use mathlib.Core.List.{List, [], _∷_, _++_}
+use mathlib.Core.List.{List}
 use lib.Ieee.{toBits}
 use lib.IntN.{pos}
 use lib.ListN.{replicate}
@@ -17,12 +17,12 @@ use Rattle.carton.specs.Blocks.{fourAt, eightAt, sizeOk, checkOf, blockOk, bloc
 use Rattle.carton.specs.Words.{wordAt, wordsOf, intOf, byteOf, floatsOf, intsOf, bytesOf, allBelow}
 use Rattle.carton.specs.Heading.{formOf, anchoringOf, symmetryOf, placesWith, headingIn, measuresNatural, wordsMatch, headingOk}
 use Rattle.carton.specs.Tables.{columnsOf, setIn}
-use Rattle.carton.specs.Seal.{eights, seal, wordsU, fileU, flagsU}
+use Rattle.key.proofs.Seal.{eights, seal, wordsU, fileU, flagsU}
 use Rattle.carton.proofs.FileLaws.{file-read}
-use Rattle.text.specs.Lines.{linesBelow, decimalOf, numberThen, bitsOf, bitsLine, bandsLine, slotLine, totalLine, slotLines, columnLines, planeLines, slotsText, totalsText, acceptedText, answeredText}
-use Rattle.answer.specs.Text.{startOf, setText, fileText, answerText}
+use Rattle.text.specs.Lines.{ascii, linesBelow, decimalOf, numberThen, bitsOf, bitsLine, bandsLine, slotLine, totalLine, slotLines, columnLines, firstBandLines, slotsText, totalsText, acceptedText, answeredText, setText}
+use Rattle.answer.specs.Text.{startOf, fileText, answerText}
 
--- ---- the file is read, and holds the set of key case M1 with other flags
+-- ---- the file is read
 
 size-u : sizeOk (fileU flagsU) ≡ true
 unfolding wordsU seal eights sizeOk checkOf fourAt fold
@@ -40,23 +40,18 @@ heading-u : headingOk (wordsU flagsU) ≡ true
 unfolding wordsU headingOk wordsMatch measuresNatural placesWith formOf sizesOf rowsOf workLength allBelow everyBelow
 heading-u = refl
 
-cell-u : setIn (columnsOf (wordsU flagsU)) (headingIn (wordsU flagsU)) (replicate 27 minus1) (replicate 3 minus1) (replicate 205 minus1) ≡ cellU half Plain Off 0 1 f16 (pos 1) all3 flagsU f0
+-- the file's set is that of the key cases' cell U with these flags and the same buffers
+pub cell-u : setIn (columnsOf (wordsU flagsU)) (headingIn (wordsU flagsU)) (replicate 27 minus1) (replicate 3 minus1) (replicate 205 minus1) ≡ cellU half Plain Off 0 1 f16 (pos 1) all3 flagsU f0
 unfolding wordsU headingIn placesWith formOf anchoringOf symmetryOf sizesOf rowsOf workLength floatsOf intsOf bytesOf intOf byteOf table tableFrom setIn cellU
 cell-u = refl
 
 -- ---- its text
 
--- in bytes
 abbrev printU : List ℕ
-printU =
-    (98 ∷ 97 ∷ 110 ∷ 100 ∷ 115 ∷ 32 ∷ 51 ∷ 10 ∷ [])
-    ++ (115 ∷ 108 ∷ 111 ∷ 116 ∷ 32 ∷ 48 ∷ 32 ∷ 49 ∷ 32 ∷ 50 ∷ 32 ∷ 51 ∷ 102 ∷ 101 ∷ 48 ∷ 48 ∷ 48 ∷ 48 ∷ 48 ∷ 48 ∷ 48 ∷ 48 ∷ 48 ∷ 48 ∷ 48 ∷ 48 ∷ 48 ∷ 10 ∷ [])
-    ++ (116 ∷ 111 ∷ 116 ∷ 97 ∷ 108 ∷ 32 ∷ 48 ∷ 32 ∷ 52 ∷ 48 ∷ 48 ∷ 56 ∷ 48 ∷ 48 ∷ 48 ∷ 48 ∷ 48 ∷ 48 ∷ 48 ∷ 48 ∷ 48 ∷ 48 ∷ 48 ∷ 48 ∷ 10 ∷ [])
-    ++ (116 ∷ 111 ∷ 116 ∷ 97 ∷ 108 ∷ 32 ∷ 49 ∷ 32 ∷ 48 ∷ 48 ∷ 48 ∷ 48 ∷ 48 ∷ 48 ∷ 48 ∷ 48 ∷ 48 ∷ 48 ∷ 48 ∷ 48 ∷ 48 ∷ 48 ∷ 48 ∷ 48 ∷ 10 ∷ [])
-    ++ (116 ∷ 111 ∷ 116 ∷ 97 ∷ 108 ∷ 32 ∷ 50 ∷ 32 ∷ 48 ∷ 48 ∷ 48 ∷ 48 ∷ 48 ∷ 48 ∷ 48 ∷ 48 ∷ 48 ∷ 48 ∷ 48 ∷ 48 ∷ 48 ∷ 48 ∷ 48 ∷ 48 ∷ 10 ∷ [])
+printU = ascii "bands 3\nslot 0 1 2 3fe0000000000000\ntotal 0 4008000000000000\ntotal 1 0000000000000000\ntotal 2 0000000000000000\n"
 
 text-u : setText (startOf (columnsOf (wordsU flagsU)) (headingIn (wordsU flagsU))) ≡ printU
-unfolding evaluate wordsU headingIn placesWith formOf anchoringOf symmetryOf floatsOf intsOf bytesOf intOf byteOf setIn startOf answeredText setText linesBelow decimalOf numberThen bitsOf bitsLine bandsLine slotLine totalLine slotLines columnLines planeLines slotsText totalsText acceptedText toBits
+unfolding evaluate wordsU headingIn placesWith formOf anchoringOf symmetryOf floatsOf intsOf bytesOf intOf byteOf setIn startOf answeredText setText linesBelow decimalOf numberThen bitsOf bitsLine bandsLine slotLine totalLine slotLines columnLines firstBandLines slotsText totalsText acceptedText toBits
 text-u = refl
 
 pub key-u : answerText (fileU flagsU) ≡ printU

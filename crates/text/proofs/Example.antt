@@ -1,4 +1,5 @@
--- Prints that are computed from the definitions: document 01's example, the listing order of two slots, a refusal, and a NaN.
+-- Prints that are computed from the definitions: the listing order of two slots, a refusal, and a NaN. Document 01's own example is `key-u` of the
+-- crate key.
 use Prim.Native.Nat.{ℕ}
 use mathlib.Core.Path.{_≡_, refl}
 use mathlib.Core.List.{List}
@@ -9,37 +10,26 @@ use Rattle.phonon.specs.declared.Anchoring.the-variants.{Plain}
 use Rattle.phonon.specs.declared.Symmetry.the-variants.{Off}
 use Rattle.phonon.specs.Number.{f0}
 use Rattle.phonon.specs.Sets.{JoinedSet}
-use Rattle.phonon.specs.Doors.{joinedOutcome}
 use Rattle.phonon.specs.KeyCases.{cellU, half, f16, all3, M10}
 use Rattle.phonon.proofs.Evaluate.{evaluate}
-use Rattle.text.specs.Lines.{ascii, decimalOf, numberThen, bitsOf, bitsLine, refusedLine, bandsLine, slotLine, totalLine, linesBelow, slotLines, columnLines, planeLines, slotsText, totalsText, acceptedText, answeredText, outcomeText}
+use Rattle.text.specs.Lines.{ascii, decimalOf, numberThen, bitsOf, bitsLine, refusedLine, bandsLine, slotLine, totalLine, linesBelow, slotLines, columnLines, firstBandLines, slotsText, totalsText, acceptedText, answeredText, setText}
 
 -- one name that opens the definitions of the print
 unfoldable print : ℕ
-unfolding toBits decimalOf numberThen bitsOf bitsLine refusedLine bandsLine slotLine totalLine linesBelow slotLines columnLines planeLines slotsText totalsText acceptedText answeredText outcomeText
+unfolding toBits decimalOf numberThen bitsOf bitsLine refusedLine bandsLine slotLine totalLine linesBelow slotLines columnLines firstBandLines slotsText totalsText acceptedText answeredText setText
 print = 0
 
 -- cell U with these flags
 abbrev flaggedU : List ℕ → JoinedSet
 flaggedU flags = cellU half Plain Off 0 1 f16 (pos 1) all3 flags f0
 
--- what `key` prints of a set
-abbrev printed : JoinedSet → List ℕ
-printed s = outcomeText s (joinedOutcome s)
-
--- every slot flagged but (0, 1, 2)
-pub example : printed (flaggedU (set (replicate 27 1) 5 0))
-    ≡ ascii "bands 3\nslot 0 1 2 3fe0000000000000\ntotal 0 4008000000000000\ntotal 1 0000000000000000\ntotal 2 0000000000000000\n"
-unfolding evaluate print
-example = refl
-
 -- every slot flagged but (0, 1, 2) and (0, 2, 1): k comes before j
-pub listing : printed (flaggedU (set (set (replicate 27 1) 5 0) 7 0))
+pub listing : setText (flaggedU (set (set (replicate 27 1) 5 0) 7 0))
     ≡ ascii "bands 3\nslot 0 2 1 0000000000000000\nslot 0 1 2 3fe0000000000000\ntotal 0 4008000000000000\ntotal 1 0000000000000000\ntotal 2 0000000000000000\n"
 unfolding evaluate print
 listing = refl
 
-pub refusal : printed (M10 .set) ≡ ascii "refused 3\n"
+pub refusal : setText (M10 .set) ≡ ascii "refused 3\n"
 unfolding evaluate print
 refusal = refl
 

@@ -12,8 +12,8 @@ use lib.ListN.{length, length-append}
 use Rattle.io.specs.Digits.{glyph}
 use Rattle.phonon.specs.Number.{at, flagged}
 use Rattle.phonon.specs.Sets.{slot}
-use Rattle.text.specs.Lines.{ascii, decimalOf, numberThen, bitsLine, refusedLine, bandsLine, slotLine, totalLine, linesBelow, slotLines, columnLines, planeLines, slotsText, totalsText, acceptedText}
-use Rattle.text.specs.Room.{mostBands, refusedRoom, bandsRoom, slotRoom, totalRoom, acceptedRoom}
+use Rattle.text.specs.Lines.{ascii, decimalOf, numberThen, bitsLine, refusedLine, bandsLine, slotLine, totalLine, linesBelow, slotLines, columnLines, firstBandLines, slotsText, totalsText, acceptedText}
+use Rattle.text.specs.Room.{mostKeyBands, refusedRoom, bandsRoom, slotRoom, totalRoom, acceptedRoom}
 
 -- ---- one line
 
@@ -41,16 +41,16 @@ pub refused-length : (n : ℕ) → n < 1000 → length (refusedLine n) ≤ refus
 unfolding refusedLine
 refused-length n h = omega (arith, length-append (ascii "refused ") (numberThen n 10), number-length n 10 h)
 
-bands-length : (n : ℕ) → n ≤ mostBands → length (bandsLine n) ≤ bandsRoom
+bands-length : (n : ℕ) → n ≤ mostKeyBands → length (bandsLine n) ≤ bandsRoom
 unfolding bandsLine
 bands-length n h = omega (arith, length-append (ascii "bands ") (numberThen n 10), number-length n 10 (omega arith))
 
-total-length : (b : ℕ) (x : Float) → b < mostBands → length (totalLine b x) ≤ totalRoom
+total-length : (b : ℕ) (x : Float) → b < mostKeyBands → length (totalLine b x) ≤ totalRoom
 unfolding totalLine
 total-length b x h =
     rw (length-append (ascii "total "), length-append (numberThen b 32)) (omega (arith, number-length b 32 (omega arith), bits-length x))
 
-slot-length : (b j k : ℕ) (x : Float) → b < mostBands → j < mostBands → k < mostBands → length (slotLine b j k x) ≤ slotRoom
+slot-length : (b j k : ℕ) (x : Float) → b < mostKeyBands → j < mostKeyBands → k < mostKeyBands → length (slotLine b j k x) ≤ slotRoom
 unfolding slotLine
 slot-length b j k x hb hj hk =
     rw (length-append (ascii "slot "), length-append (numberThen b 32), length-append (numberThen j 32), length-append (numberThen k 32))
@@ -72,15 +72,15 @@ lines-length (suc n) m f h =
 most-length : (n N m : ℕ) (f : ℕ → List ℕ) → n ≤ N → ((i : ℕ) → i < n → length (f i) ≤ m) → length (linesBelow n f) ≤ N * m
 most-length n N m f h l = omega (arith, lines-length n m f l, mul-le-mul-right m h)
 
-module _ (F B : ℕ) (flags : List ℕ) (strengths : List Float) (few : F ≤ mostBands) (bands : B ≤ mostBands) where
-  slots-length : length (slotsText F B flags strengths) ≤ mostBands * (mostBands * (mostBands * slotRoom))
-  unfolding slotsText planeLines columnLines slotLines
+module _ (F B : ℕ) (flags : List ℕ) (strengths : List Float) (few : F ≤ mostKeyBands) (bands : B ≤ mostKeyBands) where
+  slots-length : length (slotsText F B flags strengths) ≤ mostKeyBands * (mostKeyBands * (mostKeyBands * slotRoom))
+  unfolding slotsText firstBandLines columnLines slotLines
   slots-length =
-      most-length F mostBands _ _ few (λ b hb. most-length B mostBands _ _ bands (λ k hk. most-length B mostBands _ _ bands (λ j hj.
+      most-length F mostKeyBands _ _ few (λ b hb. most-length B mostKeyBands _ _ bands (λ k hk. most-length B mostKeyBands _ _ bands (λ j hj.
       unless-length (flagged flags (slot B b j k)) _ (slot-length b j k _ (omega arith) (omega arith) (omega arith)))))
 
   pub accepted-length : (totals : List Float) → length totals ≡ F → length (acceptedText F B flags strengths totals) ≤ acceptedRoom
   unfolding acceptedText totalsText
   accepted-length totals e =
       rw (length-append (bandsLine F), length-append (slotsText F B flags strengths))
-      (omega (arith, bands-length F few, slots-length, most-length (length totals) mostBands totalRoom (λ b. totalLine b (at totals b)) (omega arith) (λ b hb. total-length b (at totals b) (omega arith))))
+      (omega (arith, bands-length F few, slots-length, most-length (length totals) mostKeyBands totalRoom (λ b. totalLine b (at totals b)) (omega arith) (λ b hb. total-length b (at totals b) (omega arith))))

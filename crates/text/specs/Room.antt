@@ -2,8 +2,8 @@
 -- A number below 1,000 takes at most 4 bytes with the byte behind it; the bits take 17 with the line feed.
 use Prim.Native.Nat.{ℕ, _+_, _*_}
 
-abbrev pub mostBands : ℕ
-mostBands = 9
+abbrev pub mostKeyBands : ℕ
+mostKeyBands = 9
 
 abbrev pub refusedRoom : ℕ
 refusedRoom = 12
@@ -18,4 +18,4 @@ abbrev pub totalRoom : ℕ
 totalRoom = 27
 
 abbrev pub acceptedRoom : ℕ
-acceptedRoom = bandsRoom + mostBands * (mostBands * (mostBands * slotRoom)) + mostBands * totalRoom
+acceptedRoom = bandsRoom + mostKeyBands * (mostKeyBands * (mostKeyBands * slotRoom)) + mostKeyBands * totalRoom

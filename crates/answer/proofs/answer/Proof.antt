@@ -2,8 +2,8 @@
 use mathlib.Core.Path.{sym, _∙_}
 use native.Mathlib.Omega.{arith}
 use borrow.Author.Tests.{not-true, not-false}
+use lib.Seq.{length-take-le}
 use Rattle.carton.proofs.FileLaws.{word-count}
-use Rattle.answer.proofs.PlaceLaws.{counted}
 use Rattle.answer.proofs.TextLaws.{answer-10, answer-11, with-count}
 use Rattle.text.proofs.Laws.{wrote-same}
 use borrow.Author.Needs.{needs}
@@ -40,13 +40,13 @@ array-borrow-prefix-words : tie.Need-array-borrow-prefix-words
 array-borrow-prefix-words c = omega (arith, word-count _ (sym (c .before .before .before .before .size-ok .ensures) ∙ not-false _ (c .before .before .before .if1 .left)), c .zero-words .ensures)
 
 slice-aggregate-blocks-text : tie.Need-slice-aggregate-blocks-text
-slice-aggregate-blocks-text c = counted _ _ (omega (arith, word-count _ (sym (c .before .before .before .before .before .size-ok .ensures) ∙ not-false _ (c .before .before .before .before .if1 .left)), c .before .zero-words .ensures))
+slice-aggregate-blocks-text c = sym (length-take-le _ _ (omega (arith, word-count _ (sym (c .before .before .before .before .before .size-ok .ensures) ∙ not-false _ (c .before .before .before .before .if1 .left)), c .before .zero-words .ensures)))
 
 blocks-text-requires : tie.Need-blocks-text-requires
 blocks-text-requires c κs =
     let size = sym (c .before .before .before .before .before .before .size-ok .ensures) ∙ not-false _ (c .before .before .before .before .before .if1 .left) in
     let blocks = sym (c .before .before .before .before .blocks-ok .ensures) ∙ not-false _ (c .before .before .before .if2 .left) in
-    (size, blocks, sym (counted _ _ (omega (arith, word-count _ size, c .before .before .zero-words .ensures))), omega arith)
+    (size, blocks, length-take-le _ _ (omega (arith, word-count _ size, c .before .before .zero-words .ensures)), omega arith)
 
 returns-3 : tie.Need-returns-3
 returns-3 c = with-count (c .before .blocks-text .ensures)

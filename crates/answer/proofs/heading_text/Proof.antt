@@ -1,8 +1,10 @@
 -- The prefixes of the arrays have the lengths of the words, the slots and the first bands.
-use Rattle.answer.proofs.PlaceLaws.{counted, zeros-length, zeros-before, slot-count, few-slots}
+use lib.Seq.{length-take-le}
+use Rattle.answer.proofs.PlaceLaws.{zeros-length, zeros-before, slot-count, few-slots}
 use mathlib.Core.Path.{refl, sym}
 use lib.ListN.{length}
 use Rattle.carton.specs.Fitted.{Fitted}
+use Rattle.carton.specs.Most.{mostWords}
 use native.Mathlib.Omega.{arith}
 use borrow.Author.Needs.{needs}
 use Rattle.answer.proofs.heading_text.Statement.{statement}
@@ -37,31 +39,31 @@ fits : (d : tie.After-zero-work) → Fitted (d .before .before .before .before .
 fits d = d .before .before .before .before .before .before .before .before .before .before .before .pre .0
 
 slice-aggregate-words-text : tie.Need-slice-aggregate-words-text
-slice-aggregate-words-text c = counted _ _ (omega (arith, fits (c .before) .few, zeros-length 6048 _ (c .before .before .before .before .before .before .zero-floats .ensures)))
+slice-aggregate-words-text c = sym (length-take-le _ _ (omega (arith, fits (c .before) .few, zeros-length mostWords _ (c .before .before .before .before .before .before .zero-floats .ensures))))
 
 array-borrow-prefix-ints : tie.Need-array-borrow-prefix-ints
 array-borrow-prefix-ints c = search needs
 
 slice-aggregate-words-text-2 : tie.Need-slice-aggregate-words-text-2
-slice-aggregate-words-text-2 c = counted _ _ (omega (arith, fits (c .before .before) .few, c .before .before .before .before .before .before .zero-ints .ensures))
+slice-aggregate-words-text-2 c = sym (length-take-le _ _ (omega (arith, fits (c .before .before) .few, c .before .before .before .before .before .before .zero-ints .ensures)))
 
 array-borrow-prefix-bytes : tie.Need-array-borrow-prefix-bytes
 array-borrow-prefix-bytes c = search needs
 
 slice-aggregate-words-text-3 : tie.Need-slice-aggregate-words-text-3
-slice-aggregate-words-text-3 c = counted _ _ (omega (arith, fits (c .before .before .before) .few, c .before .before .before .before .before .before .zero-bytes .ensures))
+slice-aggregate-words-text-3 c = sym (length-take-le _ _ (omega (arith, fits (c .before .before .before) .few, c .before .before .before .before .before .before .zero-bytes .ensures)))
 
 array-borrow-prefix-strengths : tie.Need-array-borrow-prefix-strengths
 array-borrow-prefix-strengths c = search needs
 
 slice-aggregate-words-text-4 : tie.Need-slice-aggregate-words-text-4
-slice-aggregate-words-text-4 c = counted _ _ (omega (arith, few-slots _ _ (fits (c .before .before .before .before)), zeros-length 6048 _ (c .before .before .before .before .before .before .zero-floats2 .ensures)))
+slice-aggregate-words-text-4 c = sym (length-take-le _ _ (omega (arith, few-slots _ _ (fits (c .before .before .before .before)), zeros-length mostWords _ (c .before .before .before .before .before .before .zero-floats2 .ensures))))
 
 array-borrow-prefix-totals : tie.Need-array-borrow-prefix-totals
 array-borrow-prefix-totals c = search needs
 
 slice-aggregate-words-text-5 : tie.Need-slice-aggregate-words-text-5
-slice-aggregate-words-text-5 c = counted _ _ (omega (arith, fits (c .before .before .before .before .before) .first, zeros-length 6048 _ (c .before .before .before .before .before .before .zero-floats3 .ensures)))
+slice-aggregate-words-text-5 c = sym (length-take-le _ _ (omega (arith, fits (c .before .before .before .before .before) .first, zeros-length mostWords _ (c .before .before .before .before .before .before .zero-floats3 .ensures))))
 
 slice-aggregate-words-text-6 : tie.Need-slice-aggregate-words-text-6
 slice-aggregate-words-text-6 c = search needs
@@ -71,14 +73,14 @@ words-text-requires c κs =
     let d = c .before .before .before .before .before .before .before in
     let f = fits d in
     let n = f .few in
-    let floats = zeros-length 6048 _ (d .before .before .before .before .before .zero-floats .ensures) in
+    let floats = zeros-length mostWords _ (d .before .before .before .before .before .zero-floats .ensures) in
     let slots = slot-count _ _ f in (
       f,
-      sym (counted _ _ (omega (arith, n, floats))),
-      sym (counted _ _ (omega (arith, n, d .before .before .before .before .zero-ints .ensures))),
-      sym (counted _ _ (omega (arith, n, d .before .before .before .zero-bytes .ensures))),
-      zeros-before _ 6048 _ _ (d .before .before .zero-floats2 .ensures) slots (omega (arith, slots, few-slots _ _ f)),
-      zeros-before _ 6048 _ _ (d .before .zero-floats3 .ensures) refl (f .first),
+      length-take-le _ _ (omega (arith, n, floats)),
+      length-take-le _ _ (omega (arith, n, d .before .before .before .before .zero-ints .ensures)),
+      length-take-le _ _ (omega (arith, n, d .before .before .before .zero-bytes .ensures)),
+      zeros-before _ mostWords _ _ (d .before .before .zero-floats2 .ensures) slots (omega (arith, slots, few-slots _ _ f)),
+      zeros-before _ mostWords _ _ (d .before .zero-floats3 .ensures) refl (f .first),
       d .zero-work .ensures,
       d .before .before .before .before .before .before .before .before .before .before .before .pre .1,
     )

@@ -48,9 +48,6 @@ put-accepted-requires c κs =
 enum-known-answer : tie.Need-enum-known-answer
 enum-known-answer c = search needs
 
-cast-put-refused : tie.Need-cast-put-refused
-cast-put-refused c = search needs
-
 put-refused-requires : tie.Need-put-refused-requires
 put-refused-requires c κs = search needs
 
@@ -106,7 +103,6 @@ set-text-spec =
     part-put-accepted-end
     put-accepted-requires
     enum-known-answer
-    cast-put-refused
     put-refused-requires
     same-length
     same-length-2

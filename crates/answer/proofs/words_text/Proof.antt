@@ -1,5 +1,5 @@
 -- The three columns are those of the words.
-use Rattle.answer.proofs.PlaceLaws.{fitted-same, floats-length, ints-length, bytes-length}
+use Rattle.answer.proofs.PlaceLaws.{fitted-same}
 use Rattle.answer.proofs.TextLaws.{columns-same}
 use Rattle.text.proofs.Laws.{wrote-same}
 use mathlib.Core.Path.{sym, _∙_}
@@ -20,9 +20,9 @@ set-text-requires : tie.Need-set-text-requires
 set-text-requires c κs =
     let d = c .before .before .before .before .before .before .before .before .before in
     let q = d .before .before .before .before .before .before .before .before .before .before .before .before .before .before .before .before .pre in
-    let floats = floats-length _ _ (d .before .before .before .before .before .before .before .read-floats .ensures) in
-    let ints = ints-length _ _ (d .before .before .before .read-ints .ensures) in
-    let bytes = bytes-length _ _ (d .read-bytes .ensures) in
+    let floats = d .before .before .before .before .before .before .before .read-floats .kept .1 .0 ∙ q .1 in
+    let ints = d .before .before .before .read-ints .kept .1 .0 ∙ q .2 in
+    let bytes = d .read-bytes .kept .1 .0 ∙ q .3 in
     (fitted-same _ _ _ floats (q .0), ints ∙ sym floats, bytes ∙ sym floats, q .4, q .5, q .6, q .7)
 
 same-length : tie.Need-same-length

@@ -1,9 +1,13 @@
 -- Each slice lies between two places, which are in order and within the words.
+use Prim.Native.Nat.{ℕ, _*_, _≤_}
+use lib.ListN.{length}
 use mir.Syntax.{w64}
+use mir.Val.{Fits}
 use mir.ValLaws.{toZ-ofZ}
 use borrow.Author.Needs.{needs, sfits-of}
 use Rattle.phonon.specs.Number.{int}
-use Rattle.carton_door.proofs.PlaceLaws.{inside, within, scaled}
+use Rattle.carton.specs.Fitted.{Placed}
+use Rattle.carton_door.proofs.PlaceLaws.{within, scaled}
 use Rattle.carton_door.proofs.SetLaws.{door-is}
 use Rattle.carton_door.proofs.run_door.Statement.{statement}
 use Rattle.carton_door.proofs.run_door.Tie as tie
@@ -26,177 +30,240 @@ nine-at-requires c κs = search needs
 three-at-requires-2 : tie.Need-three-at-requires-2
 three-at-requires-2 c κs = search needs
 
--- the function's entry, from the place where the arrays are read
+-- ---- places: where the arrays are read, from behind each table that is lent
+
+abbrev lent-addresses : tie.After-joined-at-triplet-arg → tie.After-three-at2
+lent-addresses c = c .before
+
+abbrev lent-vectors : tie.After-joined-at-triplet-arg2 → tie.After-three-at2
+lent-vectors c = lent-addresses (c .before)
+
+abbrev lent-multiplicity : tie.After-joined-at-triplet-arg3 → tie.After-three-at2
+lent-multiplicity c = lent-vectors (c .before)
+
+abbrev lent-p2s : tie.After-joined-at-triplet-arg4 → tie.After-three-at2
+lent-p2s c = lent-multiplicity (c .before)
+
+abbrev lent-s2p : tie.After-joined-at-triplet-arg5 → tie.After-three-at2
+lent-s2p c = lent-p2s (c .before)
+
+abbrev lent-masses : tie.After-joined-at-triplet-arg6 → tie.After-three-at2
+lent-masses c = lent-s2p (c .before)
+
+abbrev lent-bands : tie.After-joined-at-triplet-arg7 → tie.After-three-at2
+lent-bands c = lent-masses (c .before)
+
+abbrev lent-frequencies : tie.After-joined-at-triplet-arg8 → tie.After-three-at2
+lent-frequencies c = lent-bands (c .before)
+
+abbrev lent-eigenvectors : tie.After-joined-at-triplet-arg9 → tie.After-three-at2
+lent-eigenvectors c = lent-frequencies (c .before)
+
+abbrev lent-shortest : tie.After-joined-at-triplet-arg10 → tie.After-three-at2
+lent-shortest c = lent-eigenvectors (c .before)
+
+abbrev lent-nonzero : tie.After-joined-at-triplet-arg11 → tie.After-three-at2
+lent-nonzero c = lent-shortest (c .before)
+
+abbrev lent-constants : tie.After-joined-at-triplet-arg12 → tie.After-three-at2
+lent-constants c = lent-nonzero (c .before)
+
+abbrev lent-flags : tie.After-joined-at-triplet-arg13 → tie.After-three-at2
+lent-flags c = lent-constants (c .before)
+
+abbrev lent-first : tie.After-joined-at-triplet-arg14 → tie.After-three-at2
+lent-first c = lent-flags (c .before)
+
+abbrev lent-second : tie.After-joined-at-triplet-arg15 → tie.After-three-at2
+lent-second c = lent-first (c .before)
+
+-- the function's entry
 abbrev entry : tie.After-three-at2 → tie.Start
 entry c = c .before .before .before .before .before .before .before .before .before .before .before .before .before
 
+-- ---- what is required, there
+
+tables : (d : tie.After-three-at2) → Placed (entry d .args .h .places) (length (entry d .args .floats .now))
+tables d = entry d .pre .0 .tables
+
+-- an end within the integers, and within the bytes
+in-ints : (d : tie.After-three-at2) {e : ℕ} → e ≤ length (entry d .args .floats .now) → e ≤ length (entry d .args .ints .now)
+in-ints d h = within _ _ _ h (entry d .pre .1)
+
+in-bytes : (d : tie.After-three-at2) {e : ℕ} → e ≤ length (entry d .args .floats .now) → e ≤ length (entry d .args .bytes .now)
+in-bytes d h = within _ _ _ h (entry d .pre .2)
+
+-- the byte at which a table of eight-byte entries starts
+starts : (d : tie.After-three-at2) {a : ℕ} → a ≤ length (entry d .args .floats .now) → Fits w64 (a * 8)
+starts d h = scaled _ _ h (entry d .pre .0 .few)
+
 sub-joined-at-triplet : tie.Need-sub-joined-at-triplet
-sub-joined-at-triplet c = entry c .pre .0 .ordered .vectors
+sub-joined-at-triplet c = tables c .addresses .order
 
 part-joined-at-triplet-start : tie.Need-part-joined-at-triplet-start
-part-joined-at-triplet-start c = entry c .pre .0 .ordered .vectors
+part-joined-at-triplet-start c = tables c .addresses .order
 
 part-joined-at-triplet-end : tie.Need-part-joined-at-triplet-end
-part-joined-at-triplet-end c = within _ _ _ (inside _ _ (entry c .pre .0) .vectors) (entry c .pre .1)
+part-joined-at-triplet-end c = in-ints c (tables c .addresses .inside)
 
 mul-joined-at-triplet : tie.Need-mul-joined-at-triplet
-mul-joined-at-triplet c = scaled _ _ (inside _ _ (entry (c .before) .pre .0) .vectors) (entry (c .before) .pre .0 .few)
+mul-joined-at-triplet c = starts (lent-addresses c) (tables (lent-addresses c) .addresses .inside)
 
 sub-joined-at-triplet-2 : tie.Need-sub-joined-at-triplet-2
-sub-joined-at-triplet-2 c = entry (c .before) .pre .0 .ordered .multiplicity
+sub-joined-at-triplet-2 c = tables (lent-addresses c) .vectors .order
 
 part-joined-at-triplet-start-2 : tie.Need-part-joined-at-triplet-start-2
-part-joined-at-triplet-start-2 c = entry (c .before) .pre .0 .ordered .multiplicity
+part-joined-at-triplet-start-2 c = tables (lent-addresses c) .vectors .order
 
 part-joined-at-triplet-end-2 : tie.Need-part-joined-at-triplet-end-2
-part-joined-at-triplet-end-2 c = inside _ _ (entry (c .before) .pre .0) .multiplicity
+part-joined-at-triplet-end-2 c = tables (lent-addresses c) .vectors .inside
 
 mul-joined-at-triplet-2 : tie.Need-mul-joined-at-triplet-2
-mul-joined-at-triplet-2 c = scaled _ _ (inside _ _ (entry (c .before .before) .pre .0) .multiplicity) (entry (c .before .before) .pre .0 .few)
+mul-joined-at-triplet-2 c = starts (lent-vectors c) (tables (lent-vectors c) .vectors .inside)
 
 sub-joined-at-triplet-3 : tie.Need-sub-joined-at-triplet-3
-sub-joined-at-triplet-3 c = entry (c .before .before) .pre .0 .ordered .p2s
+sub-joined-at-triplet-3 c = tables (lent-vectors c) .multiplicity .order
 
 part-joined-at-triplet-start-3 : tie.Need-part-joined-at-triplet-start-3
-part-joined-at-triplet-start-3 c = entry (c .before .before) .pre .0 .ordered .p2s
+part-joined-at-triplet-start-3 c = tables (lent-vectors c) .multiplicity .order
 
 part-joined-at-triplet-end-3 : tie.Need-part-joined-at-triplet-end-3
-part-joined-at-triplet-end-3 c = within _ _ _ (inside _ _ (entry (c .before .before) .pre .0) .p2s) (entry (c .before .before) .pre .1)
+part-joined-at-triplet-end-3 c = in-ints (lent-vectors c) (tables (lent-vectors c) .multiplicity .inside)
 
 mul-joined-at-triplet-3 : tie.Need-mul-joined-at-triplet-3
-mul-joined-at-triplet-3 c = scaled _ _ (inside _ _ (entry (c .before .before .before) .pre .0) .p2s) (entry (c .before .before .before) .pre .0 .few)
+mul-joined-at-triplet-3 c = starts (lent-multiplicity c) (tables (lent-multiplicity c) .multiplicity .inside)
 
 sub-joined-at-triplet-4 : tie.Need-sub-joined-at-triplet-4
-sub-joined-at-triplet-4 c = entry (c .before .before .before) .pre .0 .ordered .s2p
+sub-joined-at-triplet-4 c = tables (lent-multiplicity c) .p2s .order
 
 part-joined-at-triplet-start-4 : tie.Need-part-joined-at-triplet-start-4
-part-joined-at-triplet-start-4 c = entry (c .before .before .before) .pre .0 .ordered .s2p
+part-joined-at-triplet-start-4 c = tables (lent-multiplicity c) .p2s .order
 
 part-joined-at-triplet-end-4 : tie.Need-part-joined-at-triplet-end-4
-part-joined-at-triplet-end-4 c = within _ _ _ (inside _ _ (entry (c .before .before .before) .pre .0) .s2p) (entry (c .before .before .before) .pre .1)
+part-joined-at-triplet-end-4 c = in-ints (lent-multiplicity c) (tables (lent-multiplicity c) .p2s .inside)
 
 mul-joined-at-triplet-4 : tie.Need-mul-joined-at-triplet-4
-mul-joined-at-triplet-4 c = scaled _ _ (inside _ _ (entry (c .before .before .before .before) .pre .0) .s2p) (entry (c .before .before .before .before) .pre .0 .few)
+mul-joined-at-triplet-4 c = starts (lent-p2s c) (tables (lent-p2s c) .p2s .inside)
 
 sub-joined-at-triplet-5 : tie.Need-sub-joined-at-triplet-5
-sub-joined-at-triplet-5 c = entry (c .before .before .before .before) .pre .0 .ordered .masses
+sub-joined-at-triplet-5 c = tables (lent-p2s c) .s2p .order
 
 part-joined-at-triplet-start-5 : tie.Need-part-joined-at-triplet-start-5
-part-joined-at-triplet-start-5 c = entry (c .before .before .before .before) .pre .0 .ordered .masses
+part-joined-at-triplet-start-5 c = tables (lent-p2s c) .s2p .order
 
 part-joined-at-triplet-end-5 : tie.Need-part-joined-at-triplet-end-5
-part-joined-at-triplet-end-5 c = within _ _ _ (inside _ _ (entry (c .before .before .before .before) .pre .0) .masses) (entry (c .before .before .before .before) .pre .1)
+part-joined-at-triplet-end-5 c = in-ints (lent-p2s c) (tables (lent-p2s c) .s2p .inside)
 
 mul-joined-at-triplet-5 : tie.Need-mul-joined-at-triplet-5
-mul-joined-at-triplet-5 c = scaled _ _ (inside _ _ (entry (c .before .before .before .before .before) .pre .0) .masses) (entry (c .before .before .before .before .before) .pre .0 .few)
+mul-joined-at-triplet-5 c = starts (lent-s2p c) (tables (lent-s2p c) .s2p .inside)
 
 sub-joined-at-triplet-6 : tie.Need-sub-joined-at-triplet-6
-sub-joined-at-triplet-6 c = entry (c .before .before .before .before .before) .pre .0 .ordered .bands
+sub-joined-at-triplet-6 c = tables (lent-s2p c) .masses .order
 
 part-joined-at-triplet-start-6 : tie.Need-part-joined-at-triplet-start-6
-part-joined-at-triplet-start-6 c = entry (c .before .before .before .before .before) .pre .0 .ordered .bands
+part-joined-at-triplet-start-6 c = tables (lent-s2p c) .masses .order
 
 part-joined-at-triplet-end-6 : tie.Need-part-joined-at-triplet-end-6
-part-joined-at-triplet-end-6 c = inside _ _ (entry (c .before .before .before .before .before) .pre .0) .bands
+part-joined-at-triplet-end-6 c = tables (lent-s2p c) .masses .inside
 
 mul-joined-at-triplet-6 : tie.Need-mul-joined-at-triplet-6
-mul-joined-at-triplet-6 c = scaled _ _ (inside _ _ (entry (c .before .before .before .before .before .before) .pre .0) .bands) (entry (c .before .before .before .before .before .before) .pre .0 .few)
+mul-joined-at-triplet-6 c = starts (lent-masses c) (tables (lent-masses c) .masses .inside)
 
 sub-joined-at-triplet-7 : tie.Need-sub-joined-at-triplet-7
-sub-joined-at-triplet-7 c = entry (c .before .before .before .before .before .before) .pre .0 .ordered .frequencies
+sub-joined-at-triplet-7 c = tables (lent-masses c) .bands .order
 
 part-joined-at-triplet-start-7 : tie.Need-part-joined-at-triplet-start-7
-part-joined-at-triplet-start-7 c = entry (c .before .before .before .before .before .before) .pre .0 .ordered .frequencies
+part-joined-at-triplet-start-7 c = tables (lent-masses c) .bands .order
 
 part-joined-at-triplet-end-7 : tie.Need-part-joined-at-triplet-end-7
-part-joined-at-triplet-end-7 c = within _ _ _ (inside _ _ (entry (c .before .before .before .before .before .before) .pre .0) .frequencies) (entry (c .before .before .before .before .before .before) .pre .1)
+part-joined-at-triplet-end-7 c = in-ints (lent-masses c) (tables (lent-masses c) .bands .inside)
 
 mul-joined-at-triplet-7 : tie.Need-mul-joined-at-triplet-7
-mul-joined-at-triplet-7 c = scaled _ _ (inside _ _ (entry (c .before .before .before .before .before .before .before) .pre .0) .frequencies) (entry (c .before .before .before .before .before .before .before) .pre .0 .few)
+mul-joined-at-triplet-7 c = starts (lent-bands c) (tables (lent-bands c) .bands .inside)
 
 sub-joined-at-triplet-8 : tie.Need-sub-joined-at-triplet-8
-sub-joined-at-triplet-8 c = entry (c .before .before .before .before .before .before .before) .pre .0 .ordered .eigenvectors
+sub-joined-at-triplet-8 c = tables (lent-bands c) .frequencies .order
 
 part-joined-at-triplet-start-8 : tie.Need-part-joined-at-triplet-start-8
-part-joined-at-triplet-start-8 c = entry (c .before .before .before .before .before .before .before) .pre .0 .ordered .eigenvectors
+part-joined-at-triplet-start-8 c = tables (lent-bands c) .frequencies .order
 
 part-joined-at-triplet-end-8 : tie.Need-part-joined-at-triplet-end-8
-part-joined-at-triplet-end-8 c = inside _ _ (entry (c .before .before .before .before .before .before .before) .pre .0) .eigenvectors
+part-joined-at-triplet-end-8 c = tables (lent-bands c) .frequencies .inside
 
 mul-joined-at-triplet-8 : tie.Need-mul-joined-at-triplet-8
-mul-joined-at-triplet-8 c = scaled _ _ (inside _ _ (entry (c .before .before .before .before .before .before .before .before) .pre .0) .eigenvectors) (entry (c .before .before .before .before .before .before .before .before) .pre .0 .few)
+mul-joined-at-triplet-8 c = starts (lent-frequencies c) (tables (lent-frequencies c) .frequencies .inside)
 
 sub-joined-at-triplet-9 : tie.Need-sub-joined-at-triplet-9
-sub-joined-at-triplet-9 c = entry (c .before .before .before .before .before .before .before .before) .pre .0 .ordered .shortest
+sub-joined-at-triplet-9 c = tables (lent-frequencies c) .eigenvectors .order
 
 part-joined-at-triplet-start-9 : tie.Need-part-joined-at-triplet-start-9
-part-joined-at-triplet-start-9 c = entry (c .before .before .before .before .before .before .before .before) .pre .0 .ordered .shortest
+part-joined-at-triplet-start-9 c = tables (lent-frequencies c) .eigenvectors .order
 
 part-joined-at-triplet-end-9 : tie.Need-part-joined-at-triplet-end-9
-part-joined-at-triplet-end-9 c = inside _ _ (entry (c .before .before .before .before .before .before .before .before) .pre .0) .shortest
+part-joined-at-triplet-end-9 c = tables (lent-frequencies c) .eigenvectors .inside
 
 sub-joined-at-triplet-10 : tie.Need-sub-joined-at-triplet-10
-sub-joined-at-triplet-10 c = entry (c .before .before .before .before .before .before .before .before .before) .pre .0 .ordered .nonzero
+sub-joined-at-triplet-10 c = tables (lent-eigenvectors c) .shortest .order
 
 part-joined-at-triplet-start-10 : tie.Need-part-joined-at-triplet-start-10
-part-joined-at-triplet-start-10 c = entry (c .before .before .before .before .before .before .before .before .before) .pre .0 .ordered .nonzero
+part-joined-at-triplet-start-10 c = tables (lent-eigenvectors c) .shortest .order
 
 part-joined-at-triplet-end-10 : tie.Need-part-joined-at-triplet-end-10
-part-joined-at-triplet-end-10 c = within _ _ _ (inside _ _ (entry (c .before .before .before .before .before .before .before .before .before) .pre .0) .nonzero) (entry (c .before .before .before .before .before .before .before .before .before) .pre .2)
+part-joined-at-triplet-end-10 c = in-bytes (lent-eigenvectors c) (tables (lent-eigenvectors c) .shortest .inside)
 
 sub-joined-at-triplet-11 : tie.Need-sub-joined-at-triplet-11
-sub-joined-at-triplet-11 c = entry (c .before .before .before .before .before .before .before .before .before .before) .pre .0 .ordered .flags
+sub-joined-at-triplet-11 c = tables (lent-shortest c) .nonzero .order
 
 part-joined-at-triplet-start-11 : tie.Need-part-joined-at-triplet-start-11
-part-joined-at-triplet-start-11 c = entry (c .before .before .before .before .before .before .before .before .before .before) .pre .0 .ordered .flags
+part-joined-at-triplet-start-11 c = tables (lent-shortest c) .nonzero .order
 
 part-joined-at-triplet-end-11 : tie.Need-part-joined-at-triplet-end-11
-part-joined-at-triplet-end-11 c = within _ _ _ (inside _ _ (entry (c .before .before .before .before .before .before .before .before .before .before) .pre .0) .flags) (entry (c .before .before .before .before .before .before .before .before .before .before) .pre .2)
+part-joined-at-triplet-end-11 c = in-bytes (lent-shortest c) (tables (lent-shortest c) .nonzero .inside)
 
 mul-joined-at-triplet-9 : tie.Need-mul-joined-at-triplet-9
-mul-joined-at-triplet-9 c = scaled _ _ (inside _ _ (entry (c .before .before .before .before .before .before .before .before .before .before .before) .pre .0) .constants) (entry (c .before .before .before .before .before .before .before .before .before .before .before) .pre .0 .few)
+mul-joined-at-triplet-9 c = starts (lent-nonzero c) (tables (lent-nonzero c) .flags .inside)
 
 sub-joined-at-triplet-12 : tie.Need-sub-joined-at-triplet-12
-sub-joined-at-triplet-12 c = entry (c .before .before .before .before .before .before .before .before .before .before .before) .pre .0 .ordered .first
+sub-joined-at-triplet-12 c = tables (lent-nonzero c) .constants .order
 
 part-joined-at-triplet-start-12 : tie.Need-part-joined-at-triplet-start-12
-part-joined-at-triplet-start-12 c = entry (c .before .before .before .before .before .before .before .before .before .before .before) .pre .0 .ordered .first
+part-joined-at-triplet-start-12 c = tables (lent-nonzero c) .constants .order
 
 part-joined-at-triplet-end-12 : tie.Need-part-joined-at-triplet-end-12
-part-joined-at-triplet-end-12 c = inside _ _ (entry (c .before .before .before .before .before .before .before .before .before .before .before) .pre .0) .first
+part-joined-at-triplet-end-12 c = tables (lent-nonzero c) .constants .inside
 
 sub-joined-at-triplet-13 : tie.Need-sub-joined-at-triplet-13
-sub-joined-at-triplet-13 c = entry (c .before .before .before .before .before .before .before .before .before .before .before .before) .pre .0 .ordered .constants
+sub-joined-at-triplet-13 c = tables (lent-constants c) .flags .order
 
 part-joined-at-triplet-start-13 : tie.Need-part-joined-at-triplet-start-13
-part-joined-at-triplet-start-13 c = entry (c .before .before .before .before .before .before .before .before .before .before .before .before) .pre .0 .ordered .constants
+part-joined-at-triplet-start-13 c = tables (lent-constants c) .flags .order
 
 part-joined-at-triplet-end-13 : tie.Need-part-joined-at-triplet-end-13
-part-joined-at-triplet-end-13 c = within _ _ _ (inside _ _ (entry (c .before .before .before .before .before .before .before .before .before .before .before .before) .pre .0) .constants) (entry (c .before .before .before .before .before .before .before .before .before .before .before .before) .pre .2)
+part-joined-at-triplet-end-13 c = in-bytes (lent-constants c) (tables (lent-constants c) .flags .inside)
 
 mul-joined-at-triplet-10 : tie.Need-mul-joined-at-triplet-10
-mul-joined-at-triplet-10 c = scaled _ _ (inside _ _ (entry (c .before .before .before .before .before .before .before .before .before .before .before .before .before) .pre .0) .first) (entry (c .before .before .before .before .before .before .before .before .before .before .before .before .before) .pre .0 .few)
+mul-joined-at-triplet-10 c = starts (lent-flags c) (tables (lent-flags c) .constants .inside)
 
 sub-joined-at-triplet-14 : tie.Need-sub-joined-at-triplet-14
-sub-joined-at-triplet-14 c = entry (c .before .before .before .before .before .before .before .before .before .before .before .before .before) .pre .0 .ordered .second
+sub-joined-at-triplet-14 c = tables (lent-flags c) .first .order
 
 part-joined-at-triplet-start-14 : tie.Need-part-joined-at-triplet-start-14
-part-joined-at-triplet-start-14 c = entry (c .before .before .before .before .before .before .before .before .before .before .before .before .before) .pre .0 .ordered .second
+part-joined-at-triplet-start-14 c = tables (lent-flags c) .first .order
 
 part-joined-at-triplet-end-14 : tie.Need-part-joined-at-triplet-end-14
-part-joined-at-triplet-end-14 c = inside _ _ (entry (c .before .before .before .before .before .before .before .before .before .before .before .before .before) .pre .0) .second
+part-joined-at-triplet-end-14 c = tables (lent-flags c) .first .inside
 
 mul-joined-at-triplet-11 : tie.Need-mul-joined-at-triplet-11
-mul-joined-at-triplet-11 c = scaled _ _ (inside _ _ (entry (c .before .before .before .before .before .before .before .before .before .before .before .before .before .before) .pre .0) .second) (entry (c .before .before .before .before .before .before .before .before .before .before .before .before .before .before) .pre .0 .few)
+mul-joined-at-triplet-11 c = starts (lent-first c) (tables (lent-first c) .first .inside)
 
 sub-joined-at-triplet-15 : tie.Need-sub-joined-at-triplet-15
-sub-joined-at-triplet-15 c = entry (c .before .before .before .before .before .before .before .before .before .before .before .before .before .before) .pre .0 .ordered .end
+sub-joined-at-triplet-15 c = tables (lent-first c) .second .order
 
 part-joined-at-triplet-start-15 : tie.Need-part-joined-at-triplet-start-15
-part-joined-at-triplet-start-15 c = entry (c .before .before .before .before .before .before .before .before .before .before .before .before .before .before) .pre .0 .ordered .end
+part-joined-at-triplet-start-15 c = tables (lent-first c) .second .order
 
 part-joined-at-triplet-end-15 : tie.Need-part-joined-at-triplet-end-15
-part-joined-at-triplet-end-15 c = inside _ _ (entry (c .before .before .before .before .before .before .before .before .before .before .before .before .before .before) .pre .0) .end
+part-joined-at-triplet-end-15 c = tables (lent-first c) .second .inside
 
 joined-at-triplet-requires : tie.Need-joined-at-triplet-requires
 joined-at-triplet-requires c κs = search needs
@@ -212,14 +279,15 @@ same-length-3 c = search needs
 
 returns : tie.Need-returns
 returns c =
-    let k = c .before .before .before .before .before .before .before .before .before .before .before .before .before .before .before .before .before .before .before .before .before .before .before .before .before in
+    let done = c .before .before .before .before .before .before in
+    let k = lent-second (done .before .before .before .before) in
     let a = entry k .args in
     door-is (record { floats = a .floats .now; ints = a .ints .now; bytes = a .bytes .now }) (a .h) _ _ _ _ (a .strengths .now) (a .totals .now) (a .work .now) _
     (k .before .before .three-at .ensures)
     (k .before .nine-at .ensures)
     (k .three-at2 .ensures)
     (toZ-ofZ w64 (int (a .ints .now) 7) (sfits-of (k .before .before .before .before .t36 .given)))
-    (c .before .before .before .before .before .before .joined-at-triplet .ensures)
+    (done .joined-at-triplet .ensures)
 
 pub run-door-spec : {M : Type 1} → statement M
 run-door-spec =

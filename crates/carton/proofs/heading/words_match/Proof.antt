@@ -2,8 +2,11 @@
 use borrow.Author.Tests.{eq-eqb, ne-eqb, le-leb, lt-leb}
 use mathlib.Core.Path.{refl}
 use Rattle.phonon.specs.Limits.{workLength}
+use Rattle.carton.specs.Most.{mostWork}
+use lib.ListN.{length}
 use Rattle.carton.specs.Heading.{wordsMatch}
-use Rattle.carton.proofs.MeasureLaws.{modest, too-few, ordered}
+use Rattle.carton.specs.Fitted.{Placed}
+use Rattle.carton.proofs.MeasureLaws.{modest, too-few, placed}
 use Rattle.carton.proofs.HeadingLaws.{rest}
 use native.Mathlib.Omega.{arith}
 use borrow.Author.Needs.{needs}
@@ -31,19 +34,23 @@ returns-3 : tie.Need-returns-3
 unfolding wordsMatch
 returns-3 c =
     let m = c .before .before .before .before .before .args .m in
-    rw (eq-eqb _ _ (c .before .before .if2 .left), lt-leb (workLength (m .atoms) (m .supercell)) 6144 (omega (arith, c .before .work-length .ensures))) refl
+    rw (eq-eqb _ _ (c .before .before .if2 .left), lt-leb (workLength (m .atoms) (m .supercell)) mostWork (omega (arith, c .before .work-length .ensures))) refl
+
+-- the tables, from where they are lent
+flag-tables : (c : tie.Else3) → Placed (c .before .before .before .before .before .args .p) (length (c .before .before .before .before .before .args .words .now))
+flag-tables c = placed _ _ _ _ (c .before .before .before .before .before .pre .2) (omega (arith, c .before .before .before .if1 .left))
 
 mul-all-below : tie.Need-mul-all-below
-mul-all-below c = omega (arith, ordered _ _ _ (c .before .before .before .before .before .pre .2))
+mul-all-below c = omega (arith, flag-tables c)
 
 sub-all-below : tie.Need-sub-all-below
-sub-all-below c = omega (arith, ordered _ _ _ (c .before .before .before .before .before .pre .2))
+sub-all-below c = omega (arith, flag-tables c)
 
 part-all-below-start : tie.Need-part-all-below-start
-part-all-below-start c = omega (arith, ordered _ _ _ (c .before .before .before .before .before .pre .2))
+part-all-below-start c = omega (arith, flag-tables c)
 
 part-all-below-end : tie.Need-part-all-below-end
-part-all-below-end c = omega (arith, ordered _ _ _ (c .before .before .before .before .before .pre .2))
+part-all-below-end c = omega (arith, flag-tables c)
 
 all-below-requires : tie.Need-all-below-requires
 all-below-requires c κs = search needs
@@ -69,7 +76,7 @@ returns-4 c =
     let a = c .before .before .before .before .before .before .before .before .before .args in
     rw (
       eq-eqb _ _ (c .before .before .before .before .before .before .if2 .left),
-      le-leb (workLength (a .m .atoms) (a .m .supercell)) 6144 (omega (arith, c .before .before .before .before .before .work-length .ensures)),
+      le-leb (workLength (a .m .atoms) (a .m .supercell)) mostWork (omega (arith, c .before .before .before .before .before .work-length .ensures)),
       c .before .before .all-below .ensures,
       c .all-below2 .ensures,
       rest (a .words .now) (a .p .end),

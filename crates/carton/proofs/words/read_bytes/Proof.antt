@@ -1,24 +1,22 @@
--- After i turns the first i entries are written.
-use Prim.Native.Nat.{_-_, _≤_}
+-- A table that is filled entry by entry.
+use Prim.Native.Nat.{_-_}
 use mathlib.Core.Path.{_≡_, refl}
-use lib.ListN.{length, take, length-set, getD}
-use Rattle.phonon.specs.Number.{table, tableFrom}
+use lib.ListN.{length, getD}
 use Rattle.carton.specs.Words.{byteOf, bytesOf}
-use Rattle.carton.proofs.Laws.{table-more, table-whole}
+use Rattle.carton.proofs.Laws.{Filled, filled-none, filled-more, filled-whole}
 use native.Mathlib.Omega.{arith}
 use borrow.Author.Needs.{needs}
 use Rattle.carton.proofs.words.read_bytes.Statement.{statement}
 use Rattle.carton.proofs.words.read_bytes.Tie as tie
 
 abbrev Inv-loop : tie.InvT-loop
-Inv-loop words bytes₀ i₀ i-end bytes i = (i ≤ i-end) × (i-end ≡ length words) × (length bytes ≡ length words) × (take i bytes ≡ table i (λ k. byteOf (getD words k 0)))
+Inv-loop words bytes₀ i₀ i-end bytes i = (i-end ≡ length words) × Filled (λ k. byteOf (getD words k 0)) (length words) bytes i
 
 abbrev μ-loop : tie.MeasureT-loop
 μ-loop words bytes₀ i₀ i-end bytes i = i-end - i
 
 loop-holds : tie.Need-loop-holds Inv-loop μ-loop
-unfolding table tableFrom
-loop-holds c = (omega arith, refl, c .before .before .pre, refl)
+loop-holds c = (refl, filled-none (c .before .before .pre))
 
 mul-byte-of : tie.Need-mul-byte-of Inv-loop μ-loop
 mul-byte-of c = search needs
@@ -39,22 +37,14 @@ loop-less : tie.Need-loop-less Inv-loop μ-loop
 loop-less c = search needs
 
 loop-again : tie.Need-loop-again Inv-loop μ-loop
-loop-again c =
-    let l = c .before .before .before .loop in (
-      omega arith,
-      l .inv .1,
-      simp length-set (l .inv .2),
-      table-more _ _ (l .i) _ (omega arith) (l .inv .3) (c .byte-of .ensures),
-    )
+loop-again c = let d = c .before .before .before .loop .inv in (d .0, filled-more (omega arith) (c .byte-of .ensures) (d .1))
 
 same-length : tie.Need-same-length Inv-loop μ-loop
 same-length c = omega arith
 
 returns : tie.Need-returns Inv-loop μ-loop
 unfolding bytesOf
-returns c =
-    let l = c .before .loop in
-    table-whole _ _ _ (l .i) (omega arith) (omega arith) (omega arith) (l .inv .3)
+returns c = filled-whole (omega arith) (c .before .loop .inv .1)
 
 pub read-bytes-spec : {M : Type 1} → statement M
 read-bytes-spec =

@@ -1,26 +1,24 @@
--- After i turns the first i entries are written.
+-- A table that is filled entry by entry.
 use mir.Syntax.{w64}
 use mir.ValLaws.{toZ-ofZ}
-use Prim.Native.Nat.{_-_, _≤_}
+use Prim.Native.Nat.{_-_}
 use mathlib.Core.Path.{_≡_, refl, _∙_}
-use lib.ListN.{length, take, length-set, getD}
-use Rattle.phonon.specs.Number.{table, tableFrom}
+use lib.ListN.{length, getD}
 use Rattle.carton.specs.Words.{intOf, intsOf}
-use Rattle.carton.proofs.Laws.{table-more, table-whole}
+use Rattle.carton.proofs.Laws.{Filled, filled-none, filled-more, filled-whole}
 use native.Mathlib.Omega.{arith}
 use borrow.Author.Needs.{needs}
 use Rattle.carton.proofs.words.read_ints.Statement.{statement}
 use Rattle.carton.proofs.words.read_ints.Tie as tie
 
 abbrev Inv-loop : tie.InvT-loop
-Inv-loop words ints₀ i₀ i-end ints i = (i ≤ i-end) × (i-end ≡ length words) × (length ints ≡ length words) × (take i ints ≡ table i (λ k. intOf (getD words k 0)))
+Inv-loop words ints₀ i₀ i-end ints i = (i-end ≡ length words) × Filled (λ k. intOf (getD words k 0)) (length words) ints i
 
 abbrev μ-loop : tie.MeasureT-loop
 μ-loop words ints₀ i₀ i-end ints i = i-end - i
 
 loop-holds : tie.Need-loop-holds Inv-loop μ-loop
-unfolding table tableFrom
-loop-holds c = (omega arith, refl, c .before .pre, refl)
+loop-holds c = (refl, filled-none (c .before .pre))
 
 mul-int-of : tie.Need-mul-int-of Inv-loop μ-loop
 mul-int-of c = search needs
@@ -44,22 +42,14 @@ loop-less : tie.Need-loop-less Inv-loop μ-loop
 loop-less c = search needs
 
 loop-again : tie.Need-loop-again Inv-loop μ-loop
-loop-again c =
-    let l = c .before .before .before .loop in (
-      omega arith,
-      l .inv .1,
-      simp length-set (l .inv .2),
-      table-more _ _ (l .i) _ (omega arith) (l .inv .3) (toZ-ofZ w64 (c .int-of .result) (record { sfits = c .int-of .ok }) ∙ c .int-of .ensures),
-    )
+loop-again c = let d = c .before .before .before .loop .inv in (d .0, filled-more (omega arith) (toZ-ofZ w64 (c .int-of .result) (record { sfits = c .int-of .ok }) ∙ c .int-of .ensures) (d .1))
 
 same-length : tie.Need-same-length Inv-loop μ-loop
 same-length c = omega arith
 
 returns : tie.Need-returns Inv-loop μ-loop
 unfolding intsOf
-returns c =
-    let l = c .before .loop in
-    table-whole _ _ _ (l .i) (omega arith) (omega arith) (omega arith) (l .inv .3)
+returns c = filled-whole (omega arith) (c .before .loop .inv .1)
 
 pub read-ints-spec : {M : Type 1} → statement M
 read-ints-spec =

@@ -1,24 +1,22 @@
--- After i turns the first i entries are written.
-use Prim.Native.Nat.{_-_, _≤_}
+-- A table that is filled entry by entry.
+use Prim.Native.Nat.{_-_, _*_, _/_}
 use mathlib.Core.Path.{_≡_, refl}
-use lib.ListN.{length, take, length-set}
-use Rattle.phonon.specs.Number.{table, tableFrom}
+use lib.ListN.{length}
 use Rattle.carton.specs.Words.{wordAt, wordsOf}
-use Rattle.carton.proofs.Laws.{table-more, table-whole}
+use Rattle.carton.proofs.Laws.{Filled, filled-none, filled-more, filled-whole}
 use native.Mathlib.Omega.{arith}
 use borrow.Author.Needs.{needs}
 use Rattle.carton.proofs.words.read_words.Statement.{statement}
 use Rattle.carton.proofs.words.read_words.Tie as tie
 
 abbrev Inv-loop : tie.InvT-loop
-Inv-loop s words₀ i₀ i-end words i = (i ≤ i-end) × (i-end ≡ length words₀) × (length words ≡ length words₀) × (take i words ≡ table i (wordAt s))
+Inv-loop s words₀ i₀ i-end words i = (i-end ≡ 63 * (length s / 512)) × Filled (wordAt s) (63 * (length s / 512)) words i
 
 abbrev μ-loop : tie.MeasureT-loop
 μ-loop s words₀ i₀ i-end words i = i-end - i
 
 loop-holds : tie.Need-loop-holds Inv-loop μ-loop
-unfolding table tableFrom
-loop-holds c = (omega arith, refl, refl, refl)
+loop-holds c = let e = c .before .before .pre in (e, filled-none e)
 
 word-at-requires : tie.Need-word-at-requires Inv-loop μ-loop
 word-at-requires c κs = search needs
@@ -36,22 +34,14 @@ loop-less : tie.Need-loop-less Inv-loop μ-loop
 loop-less c = search needs
 
 loop-again : tie.Need-loop-again Inv-loop μ-loop
-loop-again c =
-    let l = c .before .before .loop in (
-      omega arith,
-      l .inv .1,
-      simp length-set (l .inv .2),
-      table-more _ _ (l .i) _ (omega arith) (l .inv .3) (c .word-at .ensures),
-    )
+loop-again c = let d = c .before .before .loop .inv in (d .0, filled-more (omega arith) (c .word-at .ensures) (d .1))
 
 same-length : tie.Need-same-length Inv-loop μ-loop
 same-length c = omega arith
 
 returns : tie.Need-returns Inv-loop μ-loop
 unfolding wordsOf
-returns c =
-    let l = c .before .loop in
-    table-whole _ _ _ (l .i) (omega arith) (omega arith) (omega arith) (l .inv .3)
+returns c = filled-whole (omega arith) (c .before .loop .inv .1)
 
 pub read-words-spec : {M : Type 1} → statement M
 read-words-spec =
