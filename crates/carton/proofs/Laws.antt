@@ -1,6 +1,5 @@
 -- Laws of tables that are written from their start, and of two's complement.
 use Prim.Native.Nat.{ℕ, zero, suc, _+_, _-_, _≤_, _<_}
-use mathlib.Core.Bool.{true}
 use mathlib.Core.Path.{_≡_, refl, sym, _∙_, ap}
 use mathlib.Core.List.{List}
 use native.Mathlib.Numerals.{add-one}
@@ -12,11 +11,8 @@ use mir.Val.{toZ, ofZ, SFits}
 use mir.ValLaws.{toZ-ofZ}
 use mir.Syntax.{w64}
 use borrow.Author.Tests.{lt-ltb, le-ltb}
-use lib.Ieee.{nan, binary64, ofBits, nanBits}
-use lib.Ieee.Bits.{nanBits-is}
 use Rattle.phonon.specs.Number.{table, tableFrom}
 use Rattle.phonon.proofs.Laws.{table-snoc}
-use Rattle.phonon.proofs.Order.{is-nan}
 use Rattle.carton.specs.Words.{intOf}
 
 -- after i turns a list of n entries holds the first i of a table
@@ -45,11 +41,6 @@ module _ {A : Type 0} {f : ℕ → A} {n : ℕ} {l : List A} where
   filled-whole {i} h d =
       let same : i ≡ n = omega arith in
       sym (take-all n l (omega arith)) ∙ rw same at (d .written)
-
--- ---- floats
-
-pub nan-pattern : (w : ℕ) → nanBits binary64 w ≡ true → nan ≡ ofBits binary64 w
-nan-pattern w e = is-nan (ofBits binary64 w) (sym (nanBits-is binary64 w) ∙ e)
 
 -- ---- two's complement
 

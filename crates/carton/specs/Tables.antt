@@ -1,6 +1,6 @@
 -- Document 01, "Carton file": the set that a carton holds.
-use Prim.Native.Nat.{ℕ, _+_}
-use mathlib.Core.List.{List, [], _∷_}
+use Prim.Native.Nat.{ℕ}
+use mathlib.Core.List.{List}
 use lib.IntN.{ℤ}
 use lib.Ieee.{Float}
 use Rattle.phonon.specs.Number.{at, int}
@@ -17,23 +17,6 @@ pub record Columns : Type 0 where
 
 abbrev pub columnsOf : List ℕ → Columns
 columnsOf ws = record { floats = floatsOf ws; ints = intsOf ws; bytes = bytesOf ws }
-
--- three and nine integers from place i on
-abbrev pub threeAt : List ℤ → ℕ → List ℤ
-threeAt l i = int l i ∷ int l (i + 1) ∷ int l (i + 2) ∷ []
-
-abbrev pub nineAt : List ℤ → ℕ → List ℤ
-nineAt l i =
-    int l i
-    ∷ int l (i + 1)
-    ∷ int l (i + 2)
-    ∷ int l (i + 3)
-    ∷ int l (i + 4)
-    ∷ int l (i + 5)
-    ∷ int l (i + 6)
-    ∷ int l (i + 7)
-    ∷ int l (i + 8)
-    ∷ []
 
 -- the joined door's set, with these strengths, totals and work buffer before the call
 unfoldable pub setIn : Columns → Heading → List Float → List Float → List Float → JoinedSet
@@ -58,8 +41,8 @@ setIn w h strengths totals work =
           };
         };
         grid = record {
-          mesh = threeAt (w .ints) 10;
-          matrix = nineAt (w .ints) 13;
+          mesh = slice 10 13 (w .ints);
+          matrix = slice 13 22 (w .ints);
           addresses = slice 25 (p .vectors) (w .ints);
         };
         bands = slice (p .bands) (p .frequencies) (w .ints);
@@ -68,7 +51,7 @@ setIn w h strengths totals work =
           eigenvectors = slice (p .eigenvectors) (p .shortest) (w .floats);
         };
       };
-      triplet = threeAt (w .ints) 22;
+      triplet = slice 22 25 (w .ints);
       flags = slice (p .flags) (p .constants) (w .bytes);
       bath = record { weight = int (w .ints) 7; temperature = at (w .floats) 9 };
       first = slice (p .first) (p .second) (w .floats);

@@ -1,9 +1,9 @@
 // The words of a carton file, and what they are as numbers.
 use crate::blocks::eight_at;
+use common::bits::f64_of_bits;
 ghost use mathlib.Core.Path.{_≡_};
 ghost use Prim.Native.Nat.{_*_, _/_, _<_};
 ghost use lib.ListN.{length};
-ghost use Rattle.phonon.specs.Number.{bits};
 ghost use Rattle.carton.specs.Words.{wordAt, wordsOf, intOf, byteOf, floatsOf, intsOf, bytesOf, allBelow};
 
 // Word w: 63 to a block.
@@ -23,18 +23,6 @@ pub fn read_words(s: &[u8], words: &mut [u64])
     for i in 0..words.len() {
         words[i] = word_at(s, i);
     }
-}
-
-// A pattern of a NaN is no argument of from_bits.
-fn float_of(w: u64) -> f64
-    ensures { λ r. ⌜ r ≡ bits w ⌝ }
-{
-    let field = w % 0x8000_0000_0000_0000 / 0x10_0000_0000_0000;
-    let digits = w % 0x10_0000_0000_0000;
-    if (field == 2047) & (digits != 0) {
-        return 0.0 / 0.0;
-    }
-    f64::from_bits(w)
 }
 
 // A word as an integer, in two's complement.
@@ -60,7 +48,7 @@ pub fn read_floats(words: &[u64], floats: &mut [f64])
     ensures { λ _. ⌜ now (floats .exit) ≡ floatsOf (now (words .entry)) ⌝ }
 {
     for i in 0..words.len() {
-        floats[i] = float_of(words[i]);
+        floats[i] = f64_of_bits(words[i]);
     }
 }
 

@@ -3,36 +3,13 @@ use carton::Heading;
 use phonon::Answer;
 use phonon::Bath;
 use phonon::Settings;
+use planes::nine_at;
+use planes::three_at;
 ghost use mathlib.Core.Path.{_≡_};
-ghost use Prim.Native.Nat.{_+_, _≤_};
 ghost use lib.ListN.{length};
 ghost use Rattle.phonon.specs.Doors.{JoinedOutcome, joinedOutcome};
 ghost use Rattle.carton.specs.Fitted.{Fitted};
-ghost use Rattle.carton.specs.Tables.{threeAt, nineAt, setIn};
-
-fn three_at(s: &[i64], i: usize) -> [i64; 3]
-    requires { ⌜ i + 3 ≤ length (now s) ⌝ }
-    ensures { λ r. ⌜ r ≡ threeAt (now (s .entry)) i ⌝ }
-{
-    [s[i], s[i + 1], s[i + 2]]
-}
-
-fn nine_at(s: &[i64], i: usize) -> [i64; 9]
-    requires { ⌜ i + 9 ≤ length (now s) ⌝ }
-    ensures { λ r. ⌜ r ≡ nineAt (now (s .entry)) i ⌝ }
-{
-    [
-        s[i],
-        s[i + 1],
-        s[i + 2],
-        s[i + 3],
-        s[i + 4],
-        s[i + 5],
-        s[i + 6],
-        s[i + 7],
-        s[i + 8],
-    ]
-}
+ghost use Rattle.carton.specs.Tables.{setIn};
 
 // floats, ints and bytes have every word of the carton as each.
 pub fn run_door(

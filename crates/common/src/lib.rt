@@ -1,4 +1,6 @@
 // common.rs: complex numbers. Beside them the root, which the language lacks, and whole numbers as f64.
+pub mod bits;
+
 use phonon::Complex;
 ghost use mathlib.Core.Path.{_≡_};
 ghost use mathlib.Core.Bool.{false};

@@ -48,13 +48,6 @@ list-facts s e =
       work = leb-true _ _ (h .1 .1 .0);
     }
 
--- three entries, one by one
-pub three-from : (l : List ℤ) (f : ℕ) → f + 3 ≤ length l → int l f ∷ (int l (f + 1) ∷ (int l (f + 2) ∷ [])) ≡ take 3 (drop f l)
-three-from l f h =
-    let e : suc (suc f) ≡ f + 2 = omega arith in
-    let d : suc f ≡ f + 1 = omega arith in
-    sym (rw (drop-cons l f (pos 0) (omega arith), drop-cons l (suc f) (pos 0) (omega arith), drop-cons l (suc (suc f)) (pos 0) (omega arith), e, d) refl)
-
 -- ---- the work buffer after t triplets: as found, or cleared
 
 abbrev pub clearedAfter : ℕ → Measures → List Float → List Float

@@ -4,6 +4,7 @@ use phonon::Form;
 use phonon::Measures;
 use phonon::Settings;
 use phonon::Symmetry;
+use planes::three_at;
 use real_to_normal::triplet::work_triplet;
 use refusals::Checked;
 use refusals::answer_of;
@@ -21,8 +22,7 @@ fn points_of(triplets: &[i64], t: usize) -> [i64; 3]
     requires { ⌜ t * 3 + 3 ≤ length (now triplets) ⌝ }
     ensures { λ r. ⌜ r ≡ Sets.part 3 t (now (triplets .entry)) ⌝ }
 {
-    let first = t * 3;
-    [triplets[first], triplets[first + 1], triplets[first + 2]]
+    three_at(triplets, t * 3)
 }
 
 // The worker of a list: the strengths of an accepted set, with so many slots for each triplet, and the work buffer

@@ -1,1 +1,2 @@
+-- Document 01's key cases as the program takes them.
 pub mod Cells

@@ -3,6 +3,7 @@
 //
 // Each case goes through every door, which takes of it what it is handed: M10's multiplicity is nothing to totals alone, nor
 // M11's temperature to the doors of the strengths. A list has the triplet twice. Totals alone reads the case's strengths.
+use common::bits::bits_of;
 use libc::STDOUT_FILENO;
 use phonon::Anchoring;
 use phonon::Answer;
@@ -504,16 +505,6 @@ fn expect(door: Door, c: Case, strengths: &mut [f64], totals: &mut [f64], work: 
 }
 
 // ---- the comparison
-
-// The bits of a number, every NaN the same.
-fn bits_of(x: f64) -> u64
-    ensures { λ r. ⌜ (r ≡ toBits binary64 x) × (x ≡ bits r) ⌝ }
-{
-    if x == x {
-        return f64::to_bits(x);
-    }
-    0x7ff8_0000_0000_0000
-}
 
 // Whether two slices hold the same bits.
 fn same(found: &[f64], expected: &[f64]) -> bool

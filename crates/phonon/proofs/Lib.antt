@@ -6,3 +6,4 @@ pub mod Order
 pub mod TwoRuns
 pub mod Accepted
 pub mod Shares
+pub mod SameSets

@@ -3,7 +3,7 @@ use phonon::Complex;
 ghost use mathlib.Core.Path.{_≡_};
 ghost use mathlib.Core.List.{[], _++_};
 ghost use Prim.Native.Nat.{_+_, _*_, _<_, _≤_};
-ghost use lib.ListN.{length, getD, drop, replicate};
+ghost use lib.ListN.{length, getD, take, drop, replicate};
 ghost use Rattle.phonon.specs.Number.{f0, index, int};
 ghost use Rattle.phonon.specs.Sets.{part};
 ghost use Rattle.phonon.specs.Limits.{workLength};
@@ -60,6 +60,32 @@ pub fn index_at(table: &[i64], n: usize) -> usize
     ensures { λ r. ⌜ r ≡ index (int (now (table .entry)) n) ⌝ }
 {
     index_of(table[n])
+}
+
+// Three numbers from place i on, as an array.
+pub fn three_at(s: &[i64], i: usize) -> [i64; 3]
+    requires { ⌜ i + 3 ≤ length (now s) ⌝ }
+    ensures { λ r. ⌜ r ≡ take 3 (drop i (now (s .entry))) ⌝ }
+{
+    [s[i], s[i + 1], s[i + 2]]
+}
+
+// Nine.
+pub fn nine_at(s: &[i64], i: usize) -> [i64; 9]
+    requires { ⌜ i + 9 ≤ length (now s) ⌝ }
+    ensures { λ r. ⌜ r ≡ take 9 (drop i (now (s .entry))) ⌝ }
+{
+    [
+        s[i],
+        s[i + 1],
+        s[i + 2],
+        s[i + 3],
+        s[i + 4],
+        s[i + 5],
+        s[i + 6],
+        s[i + 7],
+        s[i + 8],
+    ]
 }
 
 // Part g of a slice that is cut into parts of n numbers.

@@ -3,12 +3,13 @@
 //
 // A line is a function's name, its argument's bits (bose_einstein has two arguments) and its answer's bits, each as 16
 // hexadecimal digits, with single spaces. A line that starts with # is a comment. Every NaN is 7ff8000000000000.
+use common::bits::bits_of;
+use common::bits::f64_of_bits;
 use libc::STDIN_FILENO;
 use libc::STDOUT_FILENO;
 ghost use mathlib.Core.Path.{_≡_};
 ghost use Prim.Native.Nat.{_+_, _<_, _≤_};
 ghost use lib.ListN.{length};
-ghost use Rattle.phonon.specs.Number.{bits};
 
 // Room for the list.
 fn input_buffer() -> [u8; 98304]
@@ -49,26 +50,6 @@ fn word_at(line: &[u8], at: usize) -> Word
         i += 1;
     }
     Word::Bits(w)
-}
-
-// The number that the bits denote.
-fn float_of(w: u64) -> f64
-    ensures { λ r. ⌜ r ≡ bits w ⌝ }
-{
-    let field = w % 0x8000_0000_0000_0000 / 0x10_0000_0000_0000;
-    let digits = w % 0x10_0000_0000_0000;
-    if (field == 2047) & (digits != 0) {
-        return 0.0 / 0.0;
-    }
-    f64::from_bits(w)
-}
-
-// The bits of a number, every NaN the same.
-fn bits_of(x: f64) -> u64 {
-    if x == x {
-        return f64::to_bits(x);
-    }
-    0x7ff8_0000_0000_0000
 }
 
 // One argument and the answer.
@@ -139,7 +120,7 @@ fn judged_occupation(line: &[u8]) -> usize
     let Pair::Of(t, y) = pair_at(line, 31) else {
         return MALFORMED;
     };
-    judged(4, funcs::bose_einstein(float_of(x), float_of(t)), y)
+    judged(4, funcs::bose_einstein(f64_of_bits(x), f64_of_bits(t)), y)
 }
 
 // The kind of a line.
@@ -156,12 +137,12 @@ fn kind(line: &[u8]) -> usize
         let Pair::Of(x, y) = pair_at(line, 5) else {
             return MALFORMED;
         };
-        return judged(0, common::root(float_of(x)), y);
+        return judged(0, common::root(f64_of_bits(x)), y);
     }
     let Pair::Of(b, y) = pair_at(line, 4) else {
         return MALFORMED;
     };
-    let x = float_of(b);
+    let x = f64_of_bits(b);
     if begins(line, b"exp ") {
         return judged(1, funcs::exp(x), y);
     }

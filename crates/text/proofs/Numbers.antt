@@ -1,18 +1,14 @@
 -- Numbers as text: the fewest decimal digits, 16 hexadecimal digits, and the bits of an f64.
 use Prim.Native.Nat.{ℕ, zero, suc, _-_, _*_, _/_, _%_, _^_, _≤_, _<_}
-use mathlib.Core.Bool.{true, false, not, true≢false}
-use mathlib.Core.Path.{_≡_, refl, sym, _∙_, ap, subst}
+use mathlib.Core.Path.{_≡_, refl, _∙_, ap}
 use mathlib.Core.List.{List, [], _∷_, _++_}
 use native.Mathlib.Decide.{decLt}
 use native.Mathlib.Nat.{pow-succ', one-le-pow, pow-le-pow-right}
 use native.Mathlib.Omega.{arith}
-use borrow.Author.Tests.{lt-ltb, le-ltb, not-false}
-use lib.Dec.{T}
-use lib.Ieee.{Float, nan, inf, fin, isNan, eq, ne, binary64, toBits}
-use lib.Ieee.Compare.{differs-from-itself, nan-differs}
+use borrow.Author.Tests.{lt-ltb, le-ltb}
+use lib.Ieee.{Float, nan, inf, fin, binary64, toBits}
 use lib.ListN.{take}
 use Rattle.io.specs.Digits.{digits, glyph, Fewest}
-use Rattle.phonon.proofs.Order.{no-nan}
 use Rattle.text.specs.Lines.{decimalOf, bitsOf}
 
 -- ---- how many digits
@@ -56,25 +52,16 @@ decimal-digits out n (suc k) h f e = e ∙ decimal 19 n k f (omega (arith, at-mo
 
 -- ---- hexadecimal
 
+-- a NaN's one pattern is the library's
+bits-are : (x : Float) → toBits binary64 x ≡ bitsOf x
+unfolding bitsOf toBits
+bits-are nan = refl
+bits-are (inf s) = refl
+bits-are (fin s m e) = refl
+
 -- a 64-bit number has 16 digits where no fewer are asked for
 sixteen : (n r : ℕ) → n < 2 ^ 64 → Fewest 16 16 n r → r ≡ 16
 sixteen n r h f = omega (arith, f .0, at-most 16 16 n 16 r (omega arith) (omega arith) h f)
 
-pub bits-digits : (x : Float) (out : List ℕ) (n r : ℕ) → n ≡ bitsOf x → n < 2 ^ 64 → Fewest 16 16 n r → take r out ≡ digits 16 r n → take r out ≡ digits 16 16 (bitsOf x)
-bits-digits x out n r e h f d = d ∙ ap (λ (k : ℕ). digits 16 k n) (sixteen n r h f) ∙ ap (λ (m : ℕ). digits 16 16 m) e
-
--- ---- the bits of an f64
-
-pub bits-nan : (x : Float) → ne x x ≡ true → 0x7ff8_0000_0000_0000 ≡ bitsOf x
-unfolding bitsOf
-bits-nan x e = rw (differs-from-itself x (subst T (sym e) tt)) refl
-
-pub is-number : (x : Float) → ne x x ≡ false → T (not (isNan x))
-unfolding ne
-is-number x e = no-nan x (not-false (eq x x) e)
-
-pub bits-number : (x : Float) → ne x x ≡ false → toBits binary64 x ≡ bitsOf x
-unfolding bitsOf
-bits-number nan e = absurd (true≢false (sym nan-differs ∙ e))
-bits-number (inf s) e = refl
-bits-number (fin s m d) e = refl
+pub bits-digits : (x : Float) (out : List ℕ) (n r : ℕ) → n ≡ toBits binary64 x → n < 2 ^ 64 → Fewest 16 16 n r → take r out ≡ digits 16 r n → take r out ≡ digits 16 16 (bitsOf x)
+bits-digits x out n r e h f d = d ∙ ap (λ (k : ℕ). digits 16 k n) (sixteen n r h f) ∙ ap (λ (m : ℕ). digits 16 16 m) (e ∙ bits-are x)

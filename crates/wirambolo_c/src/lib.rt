@@ -7,6 +7,8 @@ use phonon::Settings;
 use phonon::Symmetry;
 use phonon::TotalsMeasures;
 use phonon::Weights;
+use planes::nine_at;
+use planes::three_at;
 use refusals::number_of;
 ghost use mathlib.Core.Path.{_≡_};
 ghost use mathlib.Core.Bool.{_&&_};
@@ -63,14 +65,14 @@ fn three(s: &[i64]) -> [i64; 3]
     requires { ⌜ length (now s) ≡ 3 ⌝ }
     ensures { λ r. ⌜ r ≡ now (s .entry) ⌝ }
 {
-    [s[0], s[1], s[2]]
+    three_at(s, 0)
 }
 
 fn nine(s: &[i64]) -> [i64; 9]
     requires { ⌜ length (now s) ≡ 9 ⌝ }
     ensures { λ r. ⌜ r ≡ now (s .entry) ⌝ }
 {
-    [s[0], s[1], s[2], s[3], s[4], s[5], s[6], s[7], s[8]]
+    nine_at(s, 0)
 }
 
 // Whether the choices are known and the arrays of the grid have their lengths.

@@ -3,12 +3,14 @@ use Prim.Native.Nat.{ℕ, _*_, _≤_}
 use lib.ListN.{length}
 use mir.Syntax.{w64}
 use mir.Val.{Fits}
-use mir.ValLaws.{toZ-ofZ}
-use borrow.Author.Needs.{needs, sfits-of}
-use Rattle.phonon.specs.Number.{int}
+use mathlib.Core.Path.{refl, ap, _∙_}
+use borrow.Author.Needs.{needs}
+use Rattle.phonon.specs.Doors.{joinedOutcome}
+use Rattle.phonon.proofs.SameSets.{tables-same, joined-same}
+use Rattle.planes.proofs.SignedRead.{read}
+use Rattle.carton.specs.Tables.{setIn}
 use Rattle.carton.specs.Fitted.{Placed}
 use Rattle.carton_door.proofs.PlaceLaws.{within, scaled}
-use Rattle.carton_door.proofs.SetLaws.{door-is}
 use Rattle.carton_door.proofs.run_door.Statement.{statement}
 use Rattle.carton_door.proofs.run_door.Tie as tie
 
@@ -278,16 +280,15 @@ same-length-3 : tie.Need-same-length-3
 same-length-3 c = search needs
 
 returns : tie.Need-returns
+unfolding setIn
 returns c =
     let done = c .before .before .before .before .before .before in
     let k = lent-second (done .before .before .before .before) in
     let a = entry k .args in
-    door-is (record { floats = a .floats .now; ints = a .ints .now; bytes = a .bytes .now }) (a .h) _ _ _ _ (a .strengths .now) (a .totals .now) (a .work .now) _
-    (k .before .before .three-at .ensures)
-    (k .before .nine-at .ensures)
-    (k .three-at2 .ensures)
-    (toZ-ofZ w64 (int (a .ints .now) 7) (sfits-of (k .before .before .before .before .t36 .given)))
-    (done .joined-at-triplet .ensures)
+    let set = setIn (record { floats = a .floats .now; ints = a .ints .now; bytes = a .bytes .now }) (a .h) (a .strengths .now) (a .totals .now) (a .work .now) in
+    let tables = tables-same (set .tables) _ _ _ _ _ refl refl refl (k .before .before .three-at .ensures) (k .before .nine-at .ensures) in
+    done .joined-at-triplet .ensures
+    ∙ ap joinedOutcome (joined-same set _ _ _ tables (k .three-at2 .ensures) (read (k .before .before .before .before .t36 .given)))
 
 pub run-door-spec : {M : Type 1} → statement M
 run-door-spec =

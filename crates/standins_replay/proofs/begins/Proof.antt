@@ -1,4 +1,4 @@
--- `standins_replay::begins` is safe: the part that is lent has n bytes. Assumes nothing.
+-- The part of the line that is lent has as many bytes as the name.
 use mathlib.Core.Path.{sym}
 use native.Mathlib.Omega.{arith}
 use borrow.Author.Needs.{needs}

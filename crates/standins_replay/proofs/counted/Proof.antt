@@ -1,4 +1,4 @@
--- `standins_replay::counted` meets its contract. Assumes nothing.
+-- Each turn ends its line behind its start, so that what is left of the list grows less; every kind is below 12.
 use mathlib.Core.Path.{_≡_}
 use Prim.Native.Nat.{_≤_, _-_}
 use lib.ListN.{length}

@@ -1,4 +1,4 @@
--- `standins_replay::line_end` meets its contract. Assumes nothing.
+-- The index stays between its start and the end of the list.
 use Prim.Native.Nat.{_≤_, _-_}
 use native.Mathlib.Omega.{arith}
 use lib.ListN.{length}

@@ -1,4 +1,4 @@
--- `standins_replay::word_at` is safe and ends. Assumes nothing.
+-- Sixteen turns; without its highest digit, sixteen times a word and a digit more is a word again.
 use Prim.Native.Nat.{_≤_, _-_}
 use native.Mathlib.Omega.{arith}
 use borrow.Author.Needs.{needs}

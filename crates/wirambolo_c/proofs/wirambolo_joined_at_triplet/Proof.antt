@@ -9,8 +9,9 @@ use mir.ValLaws.{toZ-ofZ}
 use mir.Syntax.{w64}
 use Rattle.phonon.specs.Sets.{JoinedSet}
 use Rattle.phonon.proofs.Accepted.{and-both}
+use Rattle.phonon.proofs.SameSets.{tables-same, joined-same}
 use Rattle.wirambolo_c.specs.Foreign.{anchoringOf, formOf, symmetryOf, tablesRead}
-use Rattle.wirambolo_c.proofs.Laws.{both-good, both-bad, grid-lengths, tables-same, joined-same, joined-unread, joined-answered}
+use Rattle.wirambolo_c.proofs.Laws.{both-good, both-bad, grid-lengths, joined-unread, joined-answered}
 use Rattle.wirambolo_c.proofs.wirambolo_joined_at_triplet.Statement.{statement}
 use Rattle.wirambolo_c.proofs.wirambolo_joined_at_triplet.Tie as tie
 

@@ -19,14 +19,14 @@ abbrev μ-loop : tie.MeasureT-loop
 loop-holds : tie.Need-loop-holds Inv-loop μ-loop
 loop-holds c = (refl, filled-none (c .before .before .pre))
 
-mul-float-of : tie.Need-mul-float-of Inv-loop μ-loop
-mul-float-of c = search needs
+mul-f64-of-bits : tie.Need-mul-f64-of-bits Inv-loop μ-loop
+mul-f64-of-bits c = search needs
 
-shared-slice-read-float-of : tie.Need-shared-slice-read-float-of Inv-loop μ-loop
-shared-slice-read-float-of c = search needs
+shared-slice-read-f64-of-bits : tie.Need-shared-slice-read-f64-of-bits Inv-loop μ-loop
+shared-slice-read-f64-of-bits c = search needs
 
-float-of-requires : tie.Need-float-of-requires Inv-loop μ-loop
-float-of-requires c κs = search needs
+f64-of-bits-requires : tie.Need-f64-of-bits-requires Inv-loop μ-loop
+f64-of-bits-requires c κs = search needs
 
 mul-floats : tie.Need-mul-floats Inv-loop μ-loop
 mul-floats c = search needs
@@ -41,7 +41,7 @@ loop-less : tie.Need-loop-less Inv-loop μ-loop
 loop-less c = search needs
 
 loop-again : tie.Need-loop-again Inv-loop μ-loop
-loop-again c = let d = c .before .before .before .loop .inv in (d .0, filled-more (omega arith) (c .float-of .ensures) (d .1))
+loop-again c = let d = c .before .before .before .loop .inv in (d .0, filled-more (omega arith) (c .f64-of-bits .ensures) (d .1))
 
 same-length : tie.Need-same-length Inv-loop μ-loop
 same-length c = omega arith
@@ -57,9 +57,9 @@ read-floats-spec =
     Inv-loop
     μ-loop
     loop-holds
-    mul-float-of
-    shared-slice-read-float-of
-    float-of-requires
+    mul-f64-of-bits
+    shared-slice-read-f64-of-bits
+    f64-of-bits-requires
     mul-floats
     slice-write-floats
     add-i

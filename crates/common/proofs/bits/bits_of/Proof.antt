@@ -8,8 +8,8 @@ use lib.Ieee.Bits.{ofBits-toBits}
 use Rattle.phonon.specs.Number.{bits}
 use denote.Floats.{passes}
 use Rattle.phonon.proofs.Order.{no-nan}
-use Rattle.key_cases.proofs.bits_of.Statement.{statement}
-use Rattle.key_cases.proofs.bits_of.Tie as tie
+use Rattle.common.proofs.bits.bits_of.Statement.{statement}
+use Rattle.common.proofs.bits.bits_of.Tie as tie
 
 beq-self : (s : Bool) → Bool·beq s s ≡ true
 beq-self true = refl

@@ -1,12 +1,11 @@
--- Each number is read whole.
+-- Each number is read whole, and the nine are a part of the slice.
 use Prim.Native.Nat.{_+_}
-use mathlib.Core.Path.{refl}
-use mir.Syntax.{w64}
-use mir.ValLaws.{toZ-ofZ}
-use borrow.Author.Needs.{needs, sfits-of}
+use borrow.Author.Needs.{needs}
 use Rattle.phonon.specs.Number.{int}
-use Rattle.carton_door.proofs.nine_at.Statement.{statement}
-use Rattle.carton_door.proofs.nine_at.Tie as tie
+use Rattle.planes.proofs.ReadLaws.{further, read-part}
+use Rattle.planes.proofs.SignedRead.{read}
+use Rattle.planes.proofs.nine_at.Statement.{statement}
+use Rattle.planes.proofs.nine_at.Tie as tie
 
 mul-t3 : tie.Need-mul-t3
 mul-t3 c = search needs
@@ -87,20 +86,23 @@ shared-slice-copy-out-t37 : tie.Need-shared-slice-copy-out-t37
 shared-slice-copy-out-t37 c = search needs
 
 returns : tie.Need-returns
+unfolding further
 returns c =
-    let a = c .before .before .before .before .before .before .before .before .before .args in
+    let start = c .before .before .before .before .before .before .before .before .before in
+    let l = start .args .s .now in
+    let i = start .args .i in
     rw (
-      toZ-ofZ w64 (int (a .s .now) (a .i)) (sfits-of (c .before .before .before .before .before .before .before .before .t5 .given)),
-      toZ-ofZ w64 (int (a .s .now) (a .i + 1)) (sfits-of (c .before .before .before .before .before .before .before .t9 .given)),
-      toZ-ofZ w64 (int (a .s .now) (a .i + 2)) (sfits-of (c .before .before .before .before .before .before .t13 .given)),
-      toZ-ofZ w64 (int (a .s .now) (a .i + 3)) (sfits-of (c .before .before .before .before .before .t17 .given)),
-      toZ-ofZ w64 (int (a .s .now) (a .i + 4)) (sfits-of (c .before .before .before .before .t21 .given)),
-      toZ-ofZ w64 (int (a .s .now) (a .i + 5)) (sfits-of (c .before .before .before .t25 .given)),
-      toZ-ofZ w64 (int (a .s .now) (a .i + 6)) (sfits-of (c .before .before .t29 .given)),
-      toZ-ofZ w64 (int (a .s .now) (a .i + 7)) (sfits-of (c .before .t33 .given)),
-      toZ-ofZ w64 (int (a .s .now) (a .i + 8)) (sfits-of (c .t37 .given)),
+      read {z = int l i} (c .before .before .before .before .before .before .before .before .t5 .given),
+      read {z = int l (i + 1)} (c .before .before .before .before .before .before .before .t9 .given),
+      read {z = int l (i + 2)} (c .before .before .before .before .before .before .t13 .given),
+      read {z = int l (i + 3)} (c .before .before .before .before .before .t17 .given),
+      read {z = int l (i + 4)} (c .before .before .before .before .t21 .given),
+      read {z = int l (i + 5)} (c .before .before .before .t25 .given),
+      read {z = int l (i + 6)} (c .before .before .t29 .given),
+      read {z = int l (i + 7)} (c .before .t33 .given),
+      read {z = int l (i + 8)} (c .t37 .given),
     )
-    refl
+    (read-part 8 i l (start .pre))
 
 pub nine-at-spec : {M : Type 1} → statement M
 nine-at-spec =

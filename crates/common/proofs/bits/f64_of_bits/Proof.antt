@@ -1,13 +1,12 @@
--- `standins_replay::float_of` meets its contract: its test is the one for a NaN's bits. Assumes nothing.
-use mathlib.Core.Path.{sym, subst, _∙_}
+-- The test is the library's test of a NaN's pattern; any other pattern is a number of its own.
+use mathlib.Core.Path.{refl, sym, subst, _∙_}
 use mathlib.Core.Bool.{Bool, not}
-use borrow.Author.Needs.{needs}
 use lib.Dec.{T}
 use lib.Ieee.{binary64, div, ofBits, nanBits}
 use lib.Ieee.Bits.{nanBits-is}
 use Rattle.phonon.proofs.Order.{is-nan}
-use Rattle.standins_replay.proofs.float_of.Statement.{statement}
-use Rattle.standins_replay.proofs.float_of.Tie as tie
+use Rattle.common.proofs.bits.f64_of_bits.Statement.{statement}
+use Rattle.common.proofs.bits.f64_of_bits.Tie as tie
 
 returns : tie.Need-returns
 unfolding div ofBits nanBits
@@ -18,7 +17,7 @@ unfolding nanBits
 float-from-bits-result c = subst (λ (t : Bool). T (not t)) (sym (c .if1 .left)) tt
 
 returns-2 : tie.Need-returns-2
-returns-2 c = search needs
+returns-2 c = refl
 
-pub float-of-spec : {M : Type 1} → statement M
-float-of-spec = tie.close (tie.spec returns float-from-bits-result returns-2)
+pub f64-of-bits-spec : {M : Type 1} → statement M
+f64-of-bits-spec = tie.close (tie.spec returns float-from-bits-result returns-2)
