@@ -26,6 +26,7 @@ ghost use Rattle.phonon.specs.Number.{bits, f0};
 ghost use Rattle.phonon.specs.KeyCases.{M1, keyCases};
 ghost use Rattle.phonon.specs.Doors.{StrengthsOutcome, TotalsOutcome, JoinedOutcome, tripletOutcome, listOutcome, totalsOutcome, joinedOutcome};
 ghost use Rattle.key_cases.specs.Cells as Cells;
+ghost use Rattle.key_cases.specs.Left.{Left, runOf, expectedOf};
 
 // ---- the table
 
@@ -397,6 +398,9 @@ enum Door {
 // Lends a door the part of each buffer that the case's F names, and returns its answer's number.
 fn run(door: Door, c: Case, strengths: &mut [f64], totals: &mut [f64], work: &mut [f64]) -> u8
     requires { ⌜ Cells.Sized c × (length (now strengths) ≡ 54) × (length (now totals) ≡ 3) ⌝ }
+    ensures { λ r. ⌜ _≡_ {A = Left}
+        (record { number = r; strengths = now (strengths .exit); totals = now (totals .exit); work = now (work .exit) })
+        (runOf door c (now (strengths .entry)) (now (totals .entry)) (now (work .entry))) ⌝ }
 {
     let first = c.first;
     let slots = 9 * first;
@@ -475,6 +479,9 @@ const ZEROS: [f64; 203] = [0.0; 203];
 // Writes what the door is to leave, in the parts that it is lent. A refused call leaves everything as found.
 fn expect(door: Door, c: Case, strengths: &mut [f64], totals: &mut [f64], work: &mut [f64])
     requires { ⌜ Cells.Sized c × (length (now strengths) ≡ 54) × (length (now totals) ≡ 3) × (length (now work) ≡ 205) ⌝ }
+    ensures { λ _. ⌜ _≡_ {A = Left}
+        (record { number = Cells.numberAt door c; strengths = now (strengths .exit); totals = now (totals .exit); work = now (work .exit) })
+        (expectedOf door c (now (strengths .entry)) (now (totals .entry)) (now (work .entry))) ⌝ }
 {
     if expected_number(door, c) != 0 {
         return;

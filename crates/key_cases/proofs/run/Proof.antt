@@ -1,8 +1,13 @@
--- Each part that is lent lies within its array: F is at most 3.
-use mathlib.Core.Path.{sym}
+-- Each part that is lent lies within its array: F is at most 3. What a door leaves of it stands before the rest.
+use Prim.Native.Nat.{_*_}
+use mathlib.Core.Path.{sym, ap, _∙_}
 use native.Mathlib.Omega.{arith}
+use lib.ListN.{drop}
 use lib.Seq.{length-take-le}
 use borrow.Author.Needs.{needs}
+use Rattle.key_cases.specs.declared.Door.{Door}
+use Rattle.key_cases.specs.Left.{runOf}
+use Rattle.key_cases.proofs.LeftLaws.{strengths-left, totals-left, joined-left}
 use Rattle.key_cases.proofs.run.Statement.{statement}
 use Rattle.key_cases.proofs.run.Tie as tie
 
@@ -121,7 +126,11 @@ same-length-2 : tie.Need-same-length-2
 same-length-2 c = search needs
 
 returns : tie.Need-returns
-returns c = search needs
+unfolding runOf
+returns c =
+    let a = c .before .before .before .before .before .before .before .before .before .before .before .before .before .before .before .before .before .before .before .before .args in
+    strengths-left _ (drop (9 * a .c .first) (a .strengths .now)) (a .totals .now) (c .before .before .before .before .before .run-triplet .ensures) (c .number-of .ensures)
+    ∙ ap (λ (d : Door). runOf d (a .c) (a .strengths .now) (a .totals .now) (a .work .now)) (sym (c .before .before .before .before .before .before .before .before .enum-told .given .1))
 
 same-length-3 : tie.Need-same-length-3
 same-length-3 c = search needs
@@ -130,13 +139,21 @@ same-length-4 : tie.Need-same-length-4
 same-length-4 c = search needs
 
 returns-2 : tie.Need-returns-2
-returns-2 c = search needs
+unfolding runOf
+returns-2 c =
+    let a = c .before .before .before .before .before .before .before .before .before .before .before .before .before .before .before .before .before .before .before .before .before .args in
+    strengths-left _ (drop (18 * a .c .first) (a .strengths .now)) (a .totals .now) (c .before .before .before .before .before .run-list .ensures) (c .number-of2 .ensures)
+    ∙ ap (λ (d : Door). runOf d (a .c) (a .strengths .now) (a .totals .now) (a .work .now)) (sym (c .before .before .before .before .before .before .before .before .before .enum-told2 .given .1))
 
 same-length-5 : tie.Need-same-length-5
 same-length-5 c = search needs
 
 returns-3 : tie.Need-returns-3
-returns-3 c = search needs
+unfolding runOf
+returns-3 c =
+    let a = c .before .before .before .before .before .before .before .before .before .before .before .before .before .before .before .before .before .before .args in
+    totals-left _ (a .strengths .now) (drop (a .c .first) (a .totals .now)) (a .work .now) (c .before .before .before .run-totals .ensures) (c .number-of3 .ensures)
+    ∙ ap (λ (d : Door). runOf d (a .c) (a .strengths .now) (a .totals .now) (a .work .now)) (sym (c .before .before .before .before .before .before .enum-told3 .given .1))
 
 same-length-6 : tie.Need-same-length-6
 same-length-6 c = search needs
@@ -148,7 +165,11 @@ same-length-8 : tie.Need-same-length-8
 same-length-8 c = search needs
 
 returns-4 : tie.Need-returns-4
-returns-4 c = search needs
+unfolding runOf
+returns-4 c =
+    let a = c .before .before .before .before .before .before .before .before .before .before .before .before .before .before .before .before .before .before .before .before .before .before .before .args in
+    joined-left _ (drop (9 * a .c .first) (a .strengths .now)) (drop (a .c .first) (a .totals .now)) (c .before .before .before .before .before .before .before .run-joined .ensures) (c .number-of4 .ensures)
+    ∙ ap (λ (d : Door). runOf d (a .c) (a .strengths .now) (a .totals .now) (a .work .now)) (sym (c .before .before .before .before .before .before .before .before .before .before .before .enum-told4 .given .1))
 
 pub run-spec : {M : Type 1} → statement M
 run-spec =
