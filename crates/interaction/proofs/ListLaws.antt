@@ -4,15 +4,15 @@ use native.Mathlib.Nat.{zero-mul, suc-mul}
 use native.Mathlib.Numerals.{add-one}
 use native.Mathlib.Omega.{arith}
 use mathlib.Core.Path.{_≡_, refl, sym, ap, ap₂, _∙_}
-use mathlib.Core.List.{List, [], _∷_, _++_, append-assoc}
+use mathlib.Core.List.{List, [], _++_, append-assoc}
 use borrow.Author.Tests.{leb-true, eqb-true}
-use lib.IntN.{ℤ, pos}
+use lib.IntN.{ℤ}
 use lib.Ieee.{Float}
 use lib.ListN.{length, take, drop, replicate, length-append, length-drop, length-replicate}
-use lib.Seq.{drop-cons, drop-drop, drop-at, take-at, take-all, length-take-le}
+use lib.Seq.{drop-drop, drop-at, take-at, take-all, length-take-le}
 use borrow.Rule.Slice.PartMut.{putMid, same-len-mid, mid-len, drop-put}
 use Rattle.phonon.specs.declared.Measures.{Measures}
-use Rattle.phonon.specs.Number.{f0, int, fold}
+use Rattle.phonon.specs.Number.{f0, fold}
 use Rattle.phonon.specs.Sets.{slots, part, ListSet, ofList}
 use Rattle.phonon.specs.Limits.{listOk, workLength, sizesOf}
 use Rattle.phonon.specs.Interaction.{strengths, listStrengths}
