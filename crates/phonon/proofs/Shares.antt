@@ -8,13 +8,13 @@ use mathlib.Core.List.{List, _∷_}
 use lib.Dec.{leb}
 use borrow.Author.Tests.{eqb-true, eq-eqb}
 use lib.IntN.{ℤ, pos}
-use lib.ListN.{length, drop, length-take, length-drop}
-use lib.Seq.{getD-take, getD-drop}
+use lib.ListN.{length}
 use lib.Ieee.{Float}
 use Rattle.phonon.specs.Tests.{within, allWithin}
 use Rattle.phonon.specs.Sets.{slots, part, TripletSet, ListSet, JoinedSet, ofList}
 use Rattle.phonon.specs.Limits.{sizesOf}
 use Rattle.phonon.specs.Refusal.{tableLengths, bufferLengths, sizes, tripletLengthsOk, listLengthsOk, joinedLengthsOk, pointsOk, indicesOk, phasesOk, Test, firstFailed, tripletRefusal, listRefusal, joinedRefusal}
+use Rattle.phonon.proofs.Laws.{part-at, part-size}
 use Rattle.phonon.proofs.Accepted.{and-both, both-and, all-append-is, all-first, all-append, holds, all-hold, every-at, every-from, pass, passed}
 
 -- ---- tests that make a refusal none
@@ -54,14 +54,14 @@ pub part-fits : (n : ℕ) {m t : ℕ} → t < m → t * n + n ≤ m * n
 part-fits n h = omega (arith, mul-le-mul-right n h)
 
 pub part-length : {A : Type 0} (n t : ℕ) (l : List A) → t * n + n ≤ length l → length (part n t l) ≡ n
-part-length n t l h = simp (length-take, length-drop) (omega arith)
+part-length n t l h = part-size l (t * n) n h
 
 part-within : (low high : ℤ) (n t : ℕ) (l : List ℤ) → t * n + n ≤ length l → allWithin low high l ≡ true → allWithin low high (part n t l) ≡ true
 unfolding allWithin
 part-within low high n t l h w =
     every-from _ (length (part n t l)) (λ k p.
     let q : k < n = omega (arith, part-length n t l h) in
-    ap (within low high) (getD-take n (drop (t * n) l) k (pos 0) q ∙ getD-drop (t * n) l k (pos 0)) ∙ every-at _ (length l) (t * n + k) w (omega arith))
+    ap (within low high) (part-at l (t * n) n k (pos 0) q) ∙ every-at _ (length l) (t * n + k) w (omega arith))
 
 -- the share of triplet t, with any strengths of its length and any work buffer of the list's length
 abbrev pub shareOf : ListSet → ℕ → List Float → List Float → TripletSet

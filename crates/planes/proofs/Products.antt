@@ -1,13 +1,10 @@
 -- Products of counts: places in rows of n numbers.
 use mathlib.Core.Path.{_≡_, sym, ap, _∙_}
-use mathlib.Core.List.{List}
-use lib.ListN.{length}
 use Prim.Native.Nat.{ℕ, _+_, _*_, _/_, _%_, _<_, _≤_}
 use native.Mathlib.Nat.{suc-mul, mul-le-mul-right}
 use native.Mathlib.Numerals.{add-one}
 use native.Mathlib.Omega.{arith}
-use Rattle.phonon.specs.Sets.{part}
-use Rattle.phonon.proofs.Laws.{div-of, mod-of, part-size}
+use Rattle.phonon.proofs.Laws.{div-of, mod-of}
 
 -- row i ends within m rows
 pub row-le : {i m : ℕ} (n : ℕ) → i < m → i * n + n ≤ m * n
@@ -23,7 +20,3 @@ row-same n i j p q e = sym (div-of n p i) ∙ ap (λ (x : ℕ). x / n) e ∙ div
 
 pub place-same : (n i j : ℕ) {a b : ℕ} → a < n → b < n → i * n + a ≡ j * n + b → a ≡ b
 place-same n i j p q e = sym (mod-of n p i) ∙ ap (λ (x : ℕ). x % n) e ∙ mod-of n q j
-
--- row g of a slice has n numbers
-pub part-length : {A : Type 0} (n g : ℕ) (l : List A) → g * n + n ≤ length l → length (part n g l) ≡ n
-part-length n g l h = part-size l (g * n) n h

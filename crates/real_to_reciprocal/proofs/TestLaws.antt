@@ -6,13 +6,12 @@ use Prim.Native.Nat.{ℕ, _+_, _-_, _*_, _<_, _≤_}
 use native.Mathlib.Omega.{arith}
 use lib.IntN.{ℤ, pos, negsuc}
 use lib.Dec.{leb}
-use lib.ListN.{length}
 use lib.Ieee.{Float}
 use borrow.Author.Tests.{leb-true}
 use Rattle.phonon.specs.Number.{index, int}
-use Rattle.phonon.specs.Tests.{allWithin, vectorRange}
+use Rattle.phonon.specs.Tests.{vectorRange}
 use Rattle.phonon.specs.Refusal.{rangesOk}
-use Rattle.phonon.proofs.Accepted.{and-both, every-at, index-below}
+use Rattle.phonon.proofs.Accepted.{and-both, every-at}
 use Rattle.real_to_reciprocal.specs.Shape.{Ranged}
 
 -- a vector range has a count and a start that are not negative, and ends within the vectors
@@ -35,7 +34,3 @@ pub ranged-at : {vectors : List Float} {multiplicity : List ℤ} {n : ℕ} (r : 
 unfolding rangesOk
 ranged-at {multiplicity = m} {n = n} r k h =
     range-of (r .count) _ _ (every-at (λ i. vectorRange (r .count) (int m (2 * i)) (int m (2 * i + 1))) n k (r .ranges) h)
-
--- an atom of the primitive cell is one of the supercell's S
-pub atom-below : (S : ℕ) (p2s : List ℤ) → 1 ≤ S → allWithin (pos 0) (pos (S - 1)) p2s ≡ true → (i : ℕ) → i < length p2s → index (int p2s i) < S
-atom-below S p2s h e i l = index-below S p2s h e i l

@@ -5,8 +5,7 @@ use mathlib.Core.Bool.{Bool, _&&_}
 use mathlib.Core.Path.{_≡_, refl, _∙_}
 use mathlib.Core.List.{List, [], _∷_}
 use lib.IntN.{ℤ, pos}
-use lib.ListN.{getD, drop, length-drop}
-use lib.Seq.{length-take-le, getD-take, getD-drop}
+use lib.ListN.{getD}
 use lib.Ieee.{Float}
 use Rattle.phonon.specs.Number.{index, int}
 use Rattle.phonon.specs.Trig.{inDomain}
@@ -16,6 +15,8 @@ use Rattle.phonon.specs.RealToReciprocal.{qAt, phase, prePhase, anchorVector}
 use Rattle.phonon.specs.declared.Symmetry.{Symmetry}
 use Rattle.phonon.specs.declared.Symmetry.the-variants.{Off, Symmetrized}
 use Rattle.phonon.specs.Interaction.{orders, leg, exchanged, orderCount}
+use Rattle.planes.proofs.LegOrders.{orders-lt}
+use Rattle.phonon.proofs.Laws.{part-at, part-size}
 use Rattle.refusals.specs.Phases.{legPhasesFor, prePhasesFor, ordersFor, phasesFor, legsAt, Located}
 
 module _ (q vectors : List Float) where
@@ -63,18 +64,9 @@ pub record Places (order : List ℕ) : Type 0 where
   pub second : getD order 1 0 < 3
   pub third : getD order 2 0 < 3
 
-table-places : (o : ℕ) → Places (getD orders o [])
-unfolding orders
-table-places zero = record { first = omega arith; second = omega arith; third = omega arith }
-table-places (suc zero) = record { first = omega arith; second = omega arith; third = omega arith }
-table-places (suc (suc zero)) = record { first = omega arith; second = omega arith; third = omega arith }
-table-places (suc (suc (suc zero))) = record { first = omega arith; second = omega arith; third = omega arith }
-table-places (suc (suc (suc (suc zero)))) = record { first = omega arith; second = omega arith; third = omega arith }
-table-places (suc (suc (suc (suc (suc zero))))) = record { first = omega arith; second = omega arith; third = omega arith }
-table-places (suc (suc (suc (suc (suc (suc o)))))) = record { first = omega arith; second = omega arith; third = omega arith }
-
-pub places : (order : List ℕ) (o : ℕ) → order ≡ getD orders o [] → Places order
-places order o e = rw e (table-places o)
+pub places : (order : List ℕ) (o : ℕ) → o < 6 → order ≡ getD orders o [] → Places order
+places order o h e =
+    rw e (record { first = orders-lt o 0 h (omega arith); second = orders-lt o 1 h (omega arith); third = orders-lt o 2 h (omega arith) })
 
 leg-at : {A : Type 0} (a b c d : A) (x : ℕ) → x < 3 → getD (a ∷ (b ∷ (c ∷ []))) x d ≡ leg (record { leg0 = a; leg1 = b; leg2 = c }) x
 leg-at a b c d zero h = refl
@@ -83,22 +75,22 @@ leg-at a b c d (suc (suc zero)) h = refl
 leg-at a b c d (suc (suc (suc x))) h = absurd (omega arith)
 
 -- the legs that order o picks from an array of the three
-pub exchanged-is : (a b c : List Float) (order : List ℕ) (o : ℕ) → order ≡ getD orders o []
+pub exchanged-is : (a b c : List Float) (order : List ℕ) (o : ℕ) → o < 6 → order ≡ getD orders o []
     → _≡_ {A = Legs (List Float)}
     (record { leg0 = getD (a ∷ (b ∷ (c ∷ []))) (getD order 0 0) []; leg1 = getD (a ∷ (b ∷ (c ∷ []))) (getD order 1 0) []; leg2 = getD (a ∷ (b ∷ (c ∷ []))) (getD order 2 0) [] })
     (exchanged o (record { leg0 = a; leg1 = b; leg2 = c }))
 unfolding exchanged
-exchanged-is a b c order o e =
-    let p = places order o e in
+exchanged-is a b c order o h e =
+    let p = places order o h e in
     rw (leg-at a b c [] (getD order 0 0) (p .first), leg-at a b c [] (getD order 1 0) (p .second), leg-at a b c [] (getD order 2 0) (p .third), e) refl
 
 -- the points of triplet t of a list of m
 pub part-located : {m : ℕ} {triplets addresses : List ℤ} (t : ℕ) → Located (m * 3) triplets addresses → t < m → Located 3 (part 3 t triplets) addresses
 part-located {m} {triplets} {addresses} t h l =
     record {
-      enough = omega (arith, length-take-le 3 (drop (t * 3) triplets) (omega (arith, h .enough, length-drop (t * 3) triplets)));
+      enough = omega (arith, part-size triplets (t * 3) 3 (omega (arith, h .enough)));
       addressed = λ k b.
-          let e : int (part 3 t triplets) k ≡ int triplets (t * 3 + k) = getD-take 3 (drop (t * 3) triplets) k (pos 0) b ∙ getD-drop (t * 3) triplets k (pos 0) in
+          let e : int (part 3 t triplets) k ≡ int triplets (t * 3 + k) = part-at triplets (t * 3) 3 k (pos 0) b in
           rw e (h .addressed (t * 3 + k) (omega arith));
     }
 

@@ -12,9 +12,8 @@ use Rattle.phonon.specs.declared.Sizes.{Sizes}
 use Rattle.phonon.specs.Tests.{allTrue, everyBelow}
 use Rattle.phonon.specs.Sets.{Tables, Triplet, TripletSet, ListSet, JoinedSet, ofList}
 use Rattle.phonon.specs.Refusal.{measuresOk, tableLengths, bufferLengths, sizes, tripletLengthsOk, listLengthsOk, joinedLengthsOk, pointsOk, tableIndicesOk, indicesOk, tablesFinite, meshOk, legPhasesOk, prePhasesOk, phasesOk, firstFailed}
-use Rattle.phonon.proofs.Accepted.{all-is, all-append-is, measured-facts, size-facts, index-facts}
+use Rattle.phonon.proofs.Accepted.{all-is, all-append-is, measured-facts, size-facts, index-facts, index-below}
 use Rattle.real_to_reciprocal.specs.Shape.{Ranged, Anchored}
-use Rattle.real_to_reciprocal.proofs.TestLaws.{atom-below}
 use Rattle.refusals.specs.declared.Checked.the-variants.{Good, Bad}
 use Rattle.refusals.specs.Answers.{checkedOf}
 use Rattle.refusals.specs.Slices.{lengthTests, bathLengths, indicesFor, finiteFor, meshFor}
@@ -103,7 +102,7 @@ module _ (t : Tables) (within : measuresOk (t .measures) ≡ true) (sized : allT
   located n points h e =
       let g = measured-facts (t .measures) within .grid in
       let l = size-facts t sized .addresses in
-      record { enough = h; addressed = λ k b. omega (arith, atom-below (t .measures .grid) points g e k (omega arith)) }
+      record { enough = h; addressed = λ k b. omega (arith, index-below (t .measures .grid) points g e k (omega arith)) }
 
 -- ---- the lengths of each door's set
 

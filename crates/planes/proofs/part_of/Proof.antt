@@ -4,7 +4,7 @@ use mathlib.Core.Path.{_≡_, refl}
 use native.Mathlib.Nat.{add-mul, one-mul}
 use native.Mathlib.Omega.{arith}
 use lib.ListN.{length}
-use Rattle.planes.proofs.Products.{part-length}
+use Rattle.phonon.proofs.Shares.{part-length}
 use borrow.Author.Needs.{needs}
 use Rattle.planes.proofs.part_of.Statement.{statement}
 use Rattle.planes.proofs.part_of.Tie as tie

@@ -1,6 +1,6 @@
 -- A table that is filled entry by entry.
 use Prim.Native.Nat.{_-_, _*_, _/_}
-use mathlib.Core.Path.{_≡_, refl}
+use mathlib.Core.Path.{_≡_}
 use lib.ListN.{length}
 use Rattle.carton.specs.Words.{wordAt, wordsOf}
 use Rattle.carton.proofs.Laws.{Filled, filled-none, filled-more, filled-whole}

@@ -48,7 +48,7 @@ tested : (c : tie.After-pre-phases-ok Inv-loop μ-loop) → c .pre-phases-ok .re
 tested c =
     let s = start-of c in
     let k = c .before .before .before .before .before .before .before in
-    rw (exchanged-is (s .args .q0) (s .args .q1) (s .args .q2) (k .order-at .result) (k .before .before .loop .o) (k .order-at .ensures)) at (c .pre-phases-ok .ensures)
+    rw (exchanged-is (s .args .q0) (s .args .q1) (s .args .q2) (k .order-at .result) (k .before .before .loop .o) (order-in (k .before)) (k .order-at .ensures)) at (c .pre-phases-ok .ensures)
 
 order-count-requires : tie.Need-order-count-requires Inv-loop μ-loop
 order-count-requires c κs = search needs
@@ -63,28 +63,28 @@ array-read-a : tie.Need-array-read-a Inv-loop μ-loop
 array-read-a c = omega arith
 
 mul-a : tie.Need-mul-a Inv-loop μ-loop
-mul-a c = omega (arith, places (c .order-at .result) (c .before .before .loop .o) (c .order-at .ensures) .first)
+mul-a c = omega (arith, places (c .order-at .result) (c .before .before .loop .o) (order-in (c .before)) (c .order-at .ensures) .first)
 
 array-copy-out-a : tie.Need-array-copy-out-a Inv-loop μ-loop
-array-copy-out-a c = places (c .order-at .result) (c .before .before .loop .o) (c .order-at .ensures) .first
+array-copy-out-a c = places (c .order-at .result) (c .before .before .loop .o) (order-in (c .before)) (c .order-at .ensures) .first
 
 array-read-b : tie.Need-array-read-b Inv-loop μ-loop
 array-read-b c = omega arith
 
 mul-b : tie.Need-mul-b Inv-loop μ-loop
-mul-b c = omega (arith, places (c .before .order-at .result) (c .before .before .before .loop .o) (c .before .order-at .ensures) .second)
+mul-b c = omega (arith, places (c .before .order-at .result) (c .before .before .before .loop .o) (order-in (c .before .before)) (c .before .order-at .ensures) .second)
 
 array-copy-out-b : tie.Need-array-copy-out-b Inv-loop μ-loop
-array-copy-out-b c = places (c .before .order-at .result) (c .before .before .before .loop .o) (c .before .order-at .ensures) .second
+array-copy-out-b c = places (c .before .order-at .result) (c .before .before .before .loop .o) (order-in (c .before .before)) (c .before .order-at .ensures) .second
 
 array-read-c : tie.Need-array-read-c Inv-loop μ-loop
 array-read-c c = omega arith
 
 mul-c : tie.Need-mul-c Inv-loop μ-loop
-mul-c c = omega (arith, places (c .before .before .order-at .result) (c .before .before .before .before .loop .o) (c .before .before .order-at .ensures) .third)
+mul-c c = omega (arith, places (c .before .before .order-at .result) (c .before .before .before .before .loop .o) (order-in (c .before .before .before)) (c .before .before .order-at .ensures) .third)
 
 array-copy-out-c : tie.Need-array-copy-out-c Inv-loop μ-loop
-array-copy-out-c c = places (c .before .before .order-at .result) (c .before .before .before .before .loop .o) (c .before .before .order-at .ensures) .third
+array-copy-out-c c = places (c .before .before .order-at .result) (c .before .before .before .before .loop .o) (order-in (c .before .before .before)) (c .before .before .order-at .ensures) .third
 
 pre-phases-ok-requires : tie.Need-pre-phases-ok-requires Inv-loop μ-loop
 pre-phases-ok-requires c κs = c .before .before .before .before .before .before .before .before .before .before .before .pre

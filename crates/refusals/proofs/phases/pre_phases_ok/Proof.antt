@@ -12,10 +12,9 @@ use Rattle.phonon.specs.Trig.{inDomain}
 use Rattle.phonon.specs.Sets.{Legs}
 use Rattle.phonon.specs.RealToReciprocal.{prePhase, anchorVector}
 use Rattle.phonon.specs.Tests.{everyBelow}
-use Rattle.real_to_reciprocal.proofs.TestLaws.{atom-below}
 use Rattle.real_to_reciprocal.proofs.PhaseLaws.{anchor-at, anchor-in}
 use Rattle.checks.proofs.Laws.{told-good, told-bad, every-bad}
-use Rattle.phonon.proofs.Accepted.{every-none, every-next}
+use Rattle.phonon.proofs.Accepted.{every-none, every-next, index-below}
 use Rattle.refusals.proofs.PhaseLaws.{atomFine, atoms-are}
 use Rattle.refusals.proofs.phases.pre_phases_ok.Statement.{statement}
 use Rattle.refusals.proofs.phases.pre_phases_ok.Tie as tie
@@ -50,7 +49,7 @@ anchored c =
     let s = c .before .before .before .before in
     let l : c .before .before .loop .i < length (s .args .p2s .now) = omega (arith, s .pre .atoms, c .before .loop-test .taken) in
     anchor-in (s .args .atoms) (s .args .vectors .now) (s .args .multiplicity .now) (s .args .p2s .now) (c .before .before .loop .i) (s .pre .ranged) (omega (arith, c .before .loop-test .taken))
-    (atom-below _ _ (s .pre .some) (s .pre .anchors) _ l)
+    (index-below _ _ (s .pre .some) (s .pre .anchors) _ l)
 
 entry-in :
     (c : tie.After-index-at Inv-loop μ-loop)
