@@ -114,11 +114,14 @@ impl Shape {
                 shape.small_cell(1, 3);
                 shape.measures.grid = 65_536;
             }
-            Limit::Supercell => {
+            Limit::Supercell | Limit::LargestFull => {
                 m.supercell = 64;
                 m.atoms = m.atoms.min(2);
                 m.first = m.first.min(3 * m.atoms);
-                shape.form = Form::Compact;
+                shape.form = match limit {
+                    Limit::LargestFull => Form::Full,
+                    _ => Form::Compact,
+                };
                 shape.list = 1;
             }
             Limit::Vectors => {
@@ -141,13 +144,6 @@ impl Shape {
                 };
                 shape.form = Form::Compact;
                 shape.symmetry = symmetry(random, 1);
-                shape.list = 1;
-            }
-            Limit::LargestFull => {
-                m.supercell = 64;
-                m.atoms = m.atoms.min(2);
-                m.first = m.first.min(3 * m.atoms);
-                shape.form = Form::Full;
                 shape.list = 1;
             }
             Limit::GridAndVectors => {

@@ -167,6 +167,14 @@ fn work_after(refusal: u8) -> Vec<f64> {
     work
 }
 
+/// The number, every strength and every number of the work buffer are the case's.
+fn assert_left(case: &Case, refusal: u8, strengths: &[f64], work: &[f64]) {
+    let name = &case.name;
+    assert_eq!(refusal, case.refusal, "{name}");
+    assert_eq!(bits(strengths), bits(&case.strengths), "{name}");
+    assert_eq!(bits(work), bits(&work_after(case.refusal)), "{name}");
+}
+
 #[test]
 fn joined_door() {
     for case in cases() {
@@ -174,15 +182,8 @@ fn joined_door() {
         let mut totals = vec![-1.0; case.totals.len()];
         let mut work = vec![-1.0; WORK];
         let refusal = doors::joined(&case.set, &mut strengths, &mut totals, &mut work);
-        assert_eq!(refusal, case.refusal, "{}", case.name);
-        assert_eq!(bits(&strengths), bits(&case.strengths), "{}", case.name);
+        assert_left(&case, refusal, &strengths, &work);
         assert_eq!(bits(&totals), bits(&case.totals), "{}", case.name);
-        assert_eq!(
-            bits(&work),
-            bits(&work_after(case.refusal)),
-            "{}",
-            case.name
-        );
     }
 }
 
@@ -199,14 +200,7 @@ fn strengths_doors() {
             } else {
                 doors::one_triplet(tables, case.set.triplet, &mut strengths, &mut work)
             };
-            assert_eq!(refusal, case.refusal, "{}", case.name);
-            assert_eq!(bits(&strengths), bits(&case.strengths), "{}", case.name);
-            assert_eq!(
-                bits(&work),
-                bits(&work_after(case.refusal)),
-                "{}",
-                case.name
-            );
+            assert_left(case, refusal, &strengths, &work);
         }
     }
 }
