@@ -7,11 +7,12 @@ use native.Mathlib.Nat.{mul-le-mul}
 use native.Mathlib.Omega.{arith}
 use lib.Ieee.{Float}
 use Rattle.phonon.specs.declared.Answer.the-variants.{Accepted}
-use Rattle.phonon.specs.Sets.{JoinedSet, bandsOf}
+use Rattle.phonon.specs.Sets.{JoinedSet, tripletOf, bandsOf}
 use Rattle.phonon.specs.Limits.{workLength}
 use Rattle.phonon.specs.Refusal.{joinedRefusal}
 use Rattle.phonon.specs.Doors.{JoinedOutcome, answerFor, joinedLeaves, joinedOutcome}
-use Rattle.phonon.proofs.Accepted.{Measured, measured-facts, passed}
+use Rattle.phonon.proofs.Accepted.{Measured, accepted-facts}
+use Rattle.phonon.proofs.Shares.{joined-share}
 use Rattle.carton.specs.declared.heading.Heading.{Heading}
 use Rattle.carton.specs.Fitted.{Fitted}
 use Rattle.carton.specs.Most.{mostWork}
@@ -24,8 +25,8 @@ accepts zero s e = refl
 accepts (suc n) s e = absurd (let y : _≡_ {A = ℕ} 0 1 = cc in omega arith)
 
 measures-of : (s : JoinedSet) → joinedOutcome s .answer ≡ Accepted → Measured (s .tables .measures)
-unfolding joinedOutcome joinedRefusal
-measures-of s e = measured-facts _ (passed _ _ (omega arith) (accepts (joinedRefusal s) s e) .0)
+unfolding joinedOutcome
+measures-of s e = accepted-facts (tripletOf s) (joined-share s (accepts (joinedRefusal s) s e)) .measured
 
 -- with its work buffer in 6,144 numbers
 pub three-atoms : (p s : ℕ) → workLength p s ≤ mostWork → p ≤ 3

@@ -2,12 +2,12 @@
 use Prim.Native.Nat.{ℕ, _*_, _/_, _%_, _≤_}
 use mathlib.Core.Bool.{true, false, _&&_}
 use mathlib.Core.List.{List}
-use mathlib.Core.Path.{_≡_, refl}
+use mathlib.Core.Path.{_≡_, refl, _∙_}
 use native.Mathlib.Omega.{arith}
 use lib.Dec.{leb, eqb}
 use lib.ListN.{length}
 use borrow.Author.Tests.{leb-true, eqb-true}
-use Rattle.phonon.specs.Refusal.{firstFailed}
+use Rattle.phonon.proofs.Lowest.{pass, stop, none-fails}
 use Rattle.checks.proofs.Laws.{and-left, and-right}
 use Rattle.carton.specs.Most.{mostWords}
 use Rattle.carton.specs.Blocks.{sizeOk, blocksOk}
@@ -29,18 +29,18 @@ word-count s e =
 
 module _ (s : List ℕ) where
   pub file-10 : sizeOk s ≡ false → fileRefusal s ≡ 10
-  unfolding fileRefusal firstFailed
-  file-10 a = rw a refl
+  unfolding fileRefusal
+  file-10 a = stop 9 _ refl a
 
   module _ (a : sizeOk s ≡ true) where
     pub file-11 : blocksOk s ≡ false → fileRefusal s ≡ 11
-    unfolding fileRefusal firstFailed
-    file-11 b = rw (a, b) refl
+    unfolding fileRefusal
+    file-11 b = pass _ _ a ∙ stop 10 _ refl b
 
     pub file-12 : blocksOk s ≡ true → headingOk (wordsOf s) ≡ false → fileRefusal s ≡ 12
-    unfolding fileRefusal firstFailed
-    file-12 b h = rw (a, b, h) refl
+    unfolding fileRefusal
+    file-12 b h = pass _ _ a ∙ pass _ _ b ∙ stop 11 _ refl h
 
     pub file-read : blocksOk s ≡ true → headingOk (wordsOf s) ≡ true → fileRefusal s ≡ 0
-    unfolding fileRefusal firstFailed
-    file-read b h = rw (a, b, h) refl
+    unfolding fileRefusal
+    file-read b h = none-fails _ (a, (b, (h, tt)))

@@ -1,3 +1,4 @@
--- What the contracts of the scans and of the sizes say beside phonon's definitions.
+-- What the contracts of the scans, of the sizes and of the checks' answers say beside phonon's definitions.
 pub mod Scan
 pub mod Modest
+pub mod Answers

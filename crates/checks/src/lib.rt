@@ -1,7 +1,11 @@
-// Tests of single numbers and scans of tables, which the doors' refusals are made of.
+// Tests of single numbers and scans of tables, which the doors' refusals are made of; and groups of tests that several
+// doors share.
+pub mod groups;
 pub mod limits;
+pub mod measures;
 pub mod sizes;
 pub mod values;
+pub mod verdict;
 
 ghost use mathlib.Core.Path.{_≡_};
 ghost use Prim.Native.Nat.{_+_, _*_, _≤_};

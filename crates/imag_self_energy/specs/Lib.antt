@@ -1,4 +1,3 @@
--- What the contracts of the sum and of its checks say beside phonon's definitions.
+-- What the contracts of the sum say beside phonon's definitions.
 pub mod Bands
 pub mod Lists
-pub mod Check

@@ -1,38 +1,26 @@
-// The tests of totals alone, in order. The number before each is its refusal's.
-use checks::limits;
-use checks::values;
-use phonon::Answer;
+// The tests of totals alone: those of its own slices, and the groups that it shares with the other doors.
+use checks::groups::bath_number;
+use checks::groups::points_number;
+use checks::measures::check_measures;
+use checks::values::cutoff_ok;
+use checks::verdict::Checked;
+use checks::verdict::Measured;
+use checks::verdict::checked_of;
+use checks::verdict::lower_of;
 use phonon::Bath;
+use phonon::Form;
+use phonon::Measures;
+use phonon::Sizes;
 use phonon::TotalsMeasures;
 use phonon::Weights;
 ghost use mathlib.Core.Path.{_≡_};
 ghost use mathlib.Core.Bool.{true};
 ghost use Prim.Native.Nat.{_*_, _≤_};
-ghost use Rattle.phonon.specs.Tests.{allTrue};
+ghost use Rattle.phonon.specs.Sets as Sets;
 ghost use Rattle.phonon.specs.Limits.{entriesOf};
-ghost use Rattle.phonon.specs.Refusal.{totalsMeasuresOk, totalsRefusal};
+ghost use Rattle.phonon.specs.Refusal.{measuresOk, lowest, aloneTests, totalsRefusal};
+ghost use Rattle.checks.specs.Answers.{checkedOf};
 ghost use Rattle.imag_self_energy.specs.Bands.{mostBands};
-ghost use Rattle.imag_self_energy.specs.Check.{checkedFor, measuresChecked, lengthTests, answerOf};
-
-// What the checks hand on: the number of bands of a set that passes, or the number of the test that it fails.
-pub enum Checked {
-    Bands(usize),
-    Fails(u8),
-}
-
-// 1: the measures.
-fn check_measures(m: TotalsMeasures) -> Checked
-    ensures { λ r. ⌜ r ≡ measuresChecked m ⌝ }
-{
-    if !checks::is_measured(1, limits::MOST_ATOMS, m.atoms) {
-        return Checked::Fails(1);
-    }
-    let bands = 3 * m.atoms;
-    if checks::is_measured(1, bands, m.first) & checks::is_measured(1, limits::MOST_GRID, m.grid) {
-        return Checked::Bands(bands);
-    }
-    Checked::Fails(1)
-}
 
 // How many flags, first and second weights there are, of so many first bands and bands.
 fn entries_of(weights: Weights, first: usize, bands: usize) -> usize
@@ -45,33 +33,39 @@ fn entries_of(weights: Weights, first: usize, bands: usize) -> usize
     }
 }
 
-// 2, from the slices' lengths.
-fn lengths_ok(
-    m: TotalsMeasures,
-    weights: Weights,
-    bands: usize,
-    frequencies: usize,
-    flags: usize,
-    strengths: usize,
-    first: usize,
-    second: usize,
-    totals: usize,
-) -> bool
-    requires { ⌜ (totalsMeasuresOk m ≡ true) × (bands ≡ 3 * m .atoms) ⌝ }
-    ensures { λ r. ⌜ r ≡ allTrue (lengthTests m weights frequencies flags strengths first second totals) ⌝ }
+// 2, 4 and 7 of what totals alone has in place of the tables, with flags of n entries: the lowest number that fails, or 0.
+// The measures have been checked before.
+fn alone_number(
+    m: Measures,
+    z: Sizes,
+    n: usize,
+    frequencies: &[f64],
+    cutoff: f64,
+    flags: &[u8],
+    strengths: &[f64],
+) -> u8
+    requires { ⌜ (measuresOk m ≡ true) × (z .frequencies ≡ m .grid * Sets.bandsOf m) × (z .slots ≡ Sets.slots m) ⌝ }
+    ensures { λ r. ⌜ r ≡ lowest (aloneTests m n (now (frequencies .entry)) cutoff (now (flags .entry)) (now (strengths .entry))) ⌝ }
 {
-    let entries = entries_of(weights, m.first, bands);
-    let slots = m.first * bands * bands;
-    let all = m.grid * bands;
-    (frequencies == all)
-        & (flags == entries)
-        & (strengths == slots)
-        & (first == entries)
-        & (second == entries)
-        & (totals == m.first)
+    let sized = (frequencies.len() == z.frequencies)
+        & (flags.len() == n)
+        & (strengths.len() == z.slots);
+    if !sized {
+        return 2;
+    }
+    let finite = checks::is_finite(cutoff)
+        & checks::all_finite(frequencies)
+        & checks::all_finite(strengths);
+    if !finite {
+        return 4;
+    }
+    if !cutoff_ok(cutoff) {
+        return 7;
+    }
+    0
 }
 
-// All of them, the lowest number first.
+// All of them. A supercell and vectors are not handed in: their measures stand at 1.
 pub fn check(
     m: TotalsMeasures,
     weights: Weights,
@@ -85,7 +79,7 @@ pub fn check(
     second: &[f64],
     totals: &[f64],
 ) -> Checked
-    ensures { λ r. ⌜ r ≡ checkedFor (3 * m .atoms)
+    ensures { λ r. ⌜ r ≡ checkedOf
         (totalsRefusal (record {
           measures = m;
           weights = weights;
@@ -98,49 +92,21 @@ pub fn check(
           first = now (first .entry);
           second = now (second .entry);
           totals = now (totals .entry);
-        })) ⌝ }
+        })) (Sets.measuresOf m) ⌝ }
 {
-    let Checked::Bands(bands) = check_measures(m) else {
-        return Checked::Fails(1);
+    let all = Measures {
+        atoms: m.atoms,
+        supercell: 1,
+        first: m.first,
+        grid: m.grid,
+        vectors: 1,
     };
-    if !lengths_ok(
-        m,
-        weights,
-        bands,
-        frequencies.len(),
-        flags.len(),
-        strengths.len(),
-        first.len(),
-        second.len(),
-        totals.len(),
-    ) {
-        return Checked::Fails(2);
-    }
-    if !values::points_ok(m.grid, &triplet) {
-        return Checked::Fails(3);
-    }
-    let real = checks::is_finite(cutoff)
-        & checks::all_finite(frequencies)
-        & checks::all_finite(strengths)
-        & values::bath_finite(bath, first, second);
-    if !real {
-        return Checked::Fails(4);
-    }
-    if !values::cutoff_ok(cutoff) {
-        return Checked::Fails(7);
-    }
-    if !values::bath_ok(bath) {
-        return Checked::Fails(8);
-    }
-    Checked::Bands(bands)
-}
-
-// The door's answer that it stands for.
-pub fn answer_of(c: Checked) -> Answer
-    ensures { λ r. ⌜ r ≡ answerOf c ⌝ }
-{
-    match c {
-        Checked::Bands(_) => Answer::Accepted,
-        Checked::Fails(n) => Answer::Refused(n),
-    }
+    let Measured::Within(z) = check_measures(all, Form::Compact) else {
+        return Checked::Bad(1);
+    };
+    let entries = entries_of(weights, m.first, 3 * m.atoms);
+    let alone = alone_number(all, z, entries, frequencies, cutoff, flags, strengths);
+    let points = points_number(m.grid, &triplet);
+    let rest = bath_number(entries, m.first, bath, first, second, totals.len());
+    checked_of(lower_of(alone, lower_of(points, rest)), all)
 }

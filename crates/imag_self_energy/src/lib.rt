@@ -4,12 +4,12 @@ mod listed;
 mod occupations;
 mod plain;
 
-use crate::check::Checked;
-use crate::check::answer_of;
 use crate::check::check;
 use crate::listed::fill_lists;
 use crate::occupations::occupations;
 use crate::plain::fill_plain;
+use checks::verdict::Checked;
+use checks::verdict::answer_of;
 use common::float_of;
 use phonon::Answer;
 use phonon::Band;
@@ -25,6 +25,15 @@ ghost use Rattle.phonon.specs.Number.{index, int};
 ghost use Rattle.phonon.specs.ImagSelfEnergy as Ise;
 ghost use Rattle.phonon.specs.Doors.{TotalsOutcome, totalsOutcome};
 ghost use Rattle.imag_self_energy.specs.Bands.{Sized};
+
+// The most bands of a leg, and the places of a block of so many; and the same where few bands have lists of their own.
+const MOST_BANDS: usize = 24;
+
+const MOST_PLACES: usize = MOST_BANDS * MOST_BANDS;
+
+const FEW_BANDS: usize = 12;
+
+const FEW_PLACES: usize = FEW_BANDS * FEW_BANDS;
 
 // What all slots of a triplet share: the weight as an f64.
 struct Shared {
@@ -82,8 +91,8 @@ pub fn write_totals(
         frequency: 0.0,
         occupation: -1.0,
     };
-    let mut seconds = [none; 24];
-    let mut thirds = [none; 24];
+    let mut seconds = [none; MOST_BANDS];
+    let mut thirds = [none; MOST_BANDS];
     for j in 0..bands {
         let f = leg1[j];
         let g = leg2[j];
@@ -173,12 +182,12 @@ pub fn imag_self_energy_at_triplet(
         second,
         totals,
     );
-    let Checked::Bands(bands) = checked else {
+    let Checked::Good(m) = checked else {
         return answer_of(checked);
     };
     write_totals(
         weights,
-        bands,
+        3 * m.atoms,
         triplet,
         frequencies,
         cutoff,

@@ -1,5 +1,9 @@
 // The totals by lists of the slots that count: pair (j, k) of n bands has place j * n + k, and slot (b, j, k) is
 // b * (n * n) behind it.
+use crate::FEW_BANDS;
+use crate::FEW_PLACES;
+use crate::MOST_BANDS;
+use crate::MOST_PLACES;
 use crate::Shared;
 use crate::block_of;
 use phonon::Band;
@@ -39,8 +43,8 @@ fn length_after(m: usize, stays: bool) -> usize
 fn list_pairs(
     cutoff: f64,
     n: usize,
-    seconds: [Band; 24],
-    thirds: [Band; 24],
+    seconds: [Band; MOST_BANDS],
+    thirds: [Band; MOST_BANDS],
     pairs: &mut [u16],
 ) -> usize
     requires { ⌜ (n ≤ mostBands) × (n * n ≤ length (now pairs)) ⌝ }
@@ -106,8 +110,8 @@ fn list_unflagged(
 // What the occupations of each pair make of its two weights: a factor of each, at the pair's place.
 fn fill_factors(
     n: usize,
-    seconds: [Band; 24],
-    thirds: [Band; 24],
+    seconds: [Band; MOST_BANDS],
+    thirds: [Band; MOST_BANDS],
     sums: &mut [f64],
     differences: &mut [f64],
 )
@@ -281,8 +285,8 @@ fn fill_in(
     h: Shared,
     weights: Weights,
     n: usize,
-    seconds: [Band; 24],
-    thirds: [Band; 24],
+    seconds: [Band; MOST_BANDS],
+    thirds: [Band; MOST_BANDS],
     flags: &[u8],
     first: &[f64],
     second: &[f64],
@@ -330,8 +334,8 @@ fn fill_few(
     h: Shared,
     weights: Weights,
     n: usize,
-    seconds: [Band; 24],
-    thirds: [Band; 24],
+    seconds: [Band; MOST_BANDS],
+    thirds: [Band; MOST_BANDS],
     flags: &[u8],
     first: &[f64],
     second: &[f64],
@@ -344,11 +348,11 @@ fn fill_few(
         (λ b. bandTotal h n (block weights b) b seconds thirds (now (flags .entry)) (now (first .entry)) (now (second .entry))
         (now (strengths .entry))) ⌝ }
 {
-    let mut pairs: [u16; 144] = [0; 144];
-    let mut one: [u16; 144] = [0; 144];
-    let mut two: [u16; 144] = [0; 144];
-    let mut sums: [f64; 144] = [0.0; 144];
-    let mut differences: [f64; 144] = [0.0; 144];
+    let mut pairs: [u16; FEW_PLACES] = [0; FEW_PLACES];
+    let mut one: [u16; FEW_PLACES] = [0; FEW_PLACES];
+    let mut two: [u16; FEW_PLACES] = [0; FEW_PLACES];
+    let mut sums: [f64; FEW_PLACES] = [0.0; FEW_PLACES];
+    let mut differences: [f64; FEW_PLACES] = [0.0; FEW_PLACES];
     fill_in(
         h,
         weights,
@@ -373,8 +377,8 @@ fn fill_many(
     h: Shared,
     weights: Weights,
     n: usize,
-    seconds: [Band; 24],
-    thirds: [Band; 24],
+    seconds: [Band; MOST_BANDS],
+    thirds: [Band; MOST_BANDS],
     flags: &[u8],
     first: &[f64],
     second: &[f64],
@@ -386,11 +390,11 @@ fn fill_many(
         (λ b. bandTotal h n (block weights b) b seconds thirds (now (flags .entry)) (now (first .entry)) (now (second .entry))
         (now (strengths .entry))) ⌝ }
 {
-    let mut pairs: [u16; 576] = [0; 576];
-    let mut one: [u16; 576] = [0; 576];
-    let mut two: [u16; 576] = [0; 576];
-    let mut sums: [f64; 576] = [0.0; 576];
-    let mut differences: [f64; 576] = [0.0; 576];
+    let mut pairs: [u16; MOST_PLACES] = [0; MOST_PLACES];
+    let mut one: [u16; MOST_PLACES] = [0; MOST_PLACES];
+    let mut two: [u16; MOST_PLACES] = [0; MOST_PLACES];
+    let mut sums: [f64; MOST_PLACES] = [0.0; MOST_PLACES];
+    let mut differences: [f64; MOST_PLACES] = [0.0; MOST_PLACES];
     fill_in(
         h,
         weights,
@@ -415,8 +419,8 @@ pub fn fill_lists(
     h: Shared,
     weights: Weights,
     n: usize,
-    seconds: [Band; 24],
-    thirds: [Band; 24],
+    seconds: [Band; MOST_BANDS],
+    thirds: [Band; MOST_BANDS],
     flags: &[u8],
     first: &[f64],
     second: &[f64],
@@ -428,7 +432,7 @@ pub fn fill_lists(
         (λ b. bandTotal h n (block weights b) b seconds thirds (now (flags .entry)) (now (first .entry)) (now (second .entry))
         (now (strengths .entry))) ⌝ }
 {
-    if n <= 12 {
+    if n <= FEW_BANDS {
         fill_few(
             h,
             weights,

@@ -1,4 +1,5 @@
 // The totals slot by slot, in listing order, k and then j: of a few bands this is done before lists are made.
+use crate::MOST_BANDS;
 use crate::Shared;
 use crate::block_of;
 use phonon::Band;
@@ -29,8 +30,8 @@ pub fn fill_plain(
     h: Shared,
     weights: Weights,
     n: usize,
-    seconds: [Band; 24],
-    thirds: [Band; 24],
+    seconds: [Band; MOST_BANDS],
+    thirds: [Band; MOST_BANDS],
     flags: &[u8],
     first: &[f64],
     second: &[f64],

@@ -5,19 +5,19 @@ use mathlib.Core.List.{List}
 use lib.Ieee.{Float}
 use Rattle.phonon.specs.declared.Answer.{Answer}
 use Rattle.phonon.specs.declared.Answer.the-variants.{Accepted}
-use Rattle.phonon.specs.declared.Sizes.{Sizes}
+use Rattle.phonon.specs.declared.Measures.{Measures}
 use Rattle.phonon.specs.Sets.{TripletSet, ListSet, ofTriplet}
 use Rattle.phonon.specs.Interaction.{strengths, listStrengths}
 use Rattle.phonon.specs.Refusal.{tripletRefusal, listRefusal}
 use Rattle.phonon.specs.Doors.{cleared, answerFor, StrengthsOutcome, tripletLeaves, tripletOutcome, listLeaves, listOutcome}
-use Rattle.refusals.specs.declared.Checked.{Checked}
-use Rattle.refusals.specs.declared.Checked.the-variants.{Bad}
-use Rattle.refusals.specs.Answers.{checkedOf, answerOf}
-use Rattle.refusals.proofs.AnswerLaws.{turned-back}
+use Rattle.checks.specs.declared.verdict.Checked.{Checked}
+use Rattle.checks.specs.declared.verdict.Checked.the-variants.{Bad}
+use Rattle.checks.specs.Answers.{checkedOf, answerOf}
+use Rattle.checks.proofs.AnswerLaws.{turned-back}
 
 -- ---- one triplet
 
-pub refused : (s : TripletSet) (z : Sizes) (a : Answer) (b : Checked) (n : ℕ) → b ≡ checkedOf (tripletRefusal s) z → b ≡ Bad n → a ≡ answerOf b
+pub refused : (s : TripletSet) (m : Measures) (a : Answer) (b : Checked) (n : ℕ) → b ≡ checkedOf (tripletRefusal s) m → b ≡ Bad n → a ≡ answerOf b
     → _≡_ {A = StrengthsOutcome} (record { answer = a; strengths = s .strengths; work = s .work }) (tripletOutcome s)
 unfolding tripletOutcome tripletLeaves
 refused s = turned-back (λ n. tripletLeaves n s) (λ a. record { answer = a; strengths = s .strengths; work = s .work }) (λ n. refl) (tripletRefusal s)
@@ -29,7 +29,7 @@ accepted s e p q = rw (e, p, q) refl
 
 -- ---- a list of triplets
 
-pub list-refused : (s : ListSet) (z : Sizes) (a : Answer) (b : Checked) (n : ℕ) → b ≡ checkedOf (listRefusal s) z → b ≡ Bad n → a ≡ answerOf b
+pub list-refused : (s : ListSet) (m : Measures) (a : Answer) (b : Checked) (n : ℕ) → b ≡ checkedOf (listRefusal s) m → b ≡ Bad n → a ≡ answerOf b
     → _≡_ {A = StrengthsOutcome} (record { answer = a; strengths = s .strengths; work = s .work }) (listOutcome s)
 unfolding listOutcome listLeaves
 list-refused s = turned-back (λ n. listLeaves n s) (λ a. record { answer = a; strengths = s .strengths; work = s .work }) (λ n. refl) (listRefusal s)

@@ -4,6 +4,7 @@ use native.Mathlib.Nat.{zero-mul, suc-mul}
 use native.Mathlib.Numerals.{add-one}
 use native.Mathlib.Omega.{arith}
 use mathlib.Core.Path.{_≡_, refl, sym, ap, ap₂, _∙_}
+use mathlib.Core.Bool.{true}
 use mathlib.Core.List.{List, [], _++_, append-assoc}
 use borrow.Author.Tests.{leb-true, eqb-true}
 use lib.IntN.{ℤ}
@@ -14,35 +15,37 @@ use borrow.Rule.Slice.PartMut.{putMid, same-len-mid, mid-len, drop-put}
 use Rattle.phonon.specs.declared.Measures.{Measures}
 use Rattle.phonon.specs.Number.{f0, fold}
 use Rattle.phonon.specs.Sets.{slots, part, ListSet, ofList}
-use Rattle.phonon.specs.Limits.{listOk, workLength, sizesOf}
+use Rattle.phonon.specs.Limits.{workLength, sizesOf}
 use Rattle.phonon.specs.Interaction.{strengths, listStrengths}
-use Rattle.phonon.specs.Refusal.{measuresOk, tableLengths, bufferLengths, sizes, listLengthsOk, tripletRefusal, listRefusal}
+use Rattle.phonon.specs.Refusal.{measuresOk, bufferLengths, countTests, testsOf, tripletRefusal, listRefusal}
 use Rattle.phonon.specs.Doors.{cleared}
-use Rattle.phonon.proofs.Accepted.{and-both, all-first, all-append, holds, measured-in, passed}
+use Rattle.phonon.proofs.Lowest.{none-both, passing}
+use Rattle.phonon.proofs.Accepted.{holds, measured-in, table-facts}
 use Rattle.phonon.proofs.Laws.{fold-step}
 use Rattle.phonon.proofs.Shares.{part-fits, list-share}
 
 -- ---- what is known of an accepted list
 
 pub record AcceptedList (s : ListSet) : Type 0 where
+  pub measures : measuresOk (s .tables .measures) ≡ true
   pub some : 1 ≤ s .list
   pub triplets : length (s .triplets) ≡ s .list * 3
   pub flags : length (s .flags) ≡ s .list * slots (s .tables .measures)
   pub strengths : length (s .strengths) ≡ s .list * slots (s .tables .measures)
   pub work : workLength (s .tables .measures .atoms) (s .tables .measures .supercell) ≤ length (s .work)
 
-list-facts : (s : ListSet) → listRefusal s ≡ 0 → AcceptedList s
-unfolding listRefusal listLengthsOk bufferLengths sizesOf
+pub list-facts : (s : ListSet) → listRefusal s ≡ 0 → AcceptedList s
+unfolding listRefusal bufferLengths sizesOf
 list-facts s e =
-    let a = passed _ _ (omega arith) e in
-    let b = passed _ _ (omega arith) (a .1) in
-    let i = and-both (measuresOk (s .tables .measures)) (listOk (s .list)) (a .0) in
-    let k = all-first _ _ (b .0) in
-    let l = all-append (tableLengths (s .tables) (sizes (s .tables))) _ (k .1) in
-    let h = holds _ (l .1) in
+    let a = none-both (countTests (s .list) (s .triplets)) _ e in
+    let b = none-both (testsOf (s .tables)) _ (a .1) in
+    let c = passing (countTests (s .list) (s .triplets)) refl (a .0) in
+    let d = passing _ refl (b .1) in
+    let h = holds _ (d .0) in
     record {
-      some = measured-in _ _ (s .list) (i .1) .0;
-      triplets = omega (arith, eqb-true (length (s .triplets)) (3 * s .list) (k .0));
+      measures = table-facts (s .tables) (b .0) .measures;
+      some = measured-in _ _ (s .list) (c .0) .0;
+      triplets = omega (arith, eqb-true (length (s .triplets)) (3 * s .list) (c .1 .0));
       flags = eqb-true _ _ (h .0);
       strengths = eqb-true _ _ (h .1 .0);
       work = leb-true _ _ (h .1 .1 .0);

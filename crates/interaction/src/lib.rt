@@ -1,14 +1,14 @@
 // interaction.rs: the doors of the strengths.
 pub mod list;
 
+use checks::verdict::Checked;
+use checks::verdict::answer_of;
 use phonon::Answer;
 use phonon::Form;
 use phonon::Measures;
 use phonon::Settings;
 use phonon::Symmetry;
 use real_to_normal::triplet::work_triplet;
-use refusals::Checked;
-use refusals::answer_of;
 use refusals::triplet::check_triplet;
 ghost use mathlib.Core.Path.{_≡_};
 ghost use Rattle.phonon.specs.Doors.{StrengthsOutcome, tripletOutcome};
@@ -92,7 +92,7 @@ pub fn get_interaction_at_triplet(
         strengths.len(),
         work.len(),
     );
-    let Checked::Good(_) = checked else {
+    let Checked::Good(m) = checked else {
         return answer_of(checked);
     };
     work_triplet(

@@ -1,4 +1,7 @@
 // get_interaction of interaction.rs: each triplet of a list works its own part of the strengths.
+use checks::sizes::sizes_of;
+use checks::verdict::Checked;
+use checks::verdict::answer_of;
 use phonon::Answer;
 use phonon::Form;
 use phonon::Measures;
@@ -6,8 +9,6 @@ use phonon::Settings;
 use phonon::Symmetry;
 use planes::three_at;
 use real_to_normal::triplet::work_triplet;
-use refusals::Checked;
-use refusals::answer_of;
 use refusals::list::check_list;
 ghost use mathlib.Core.Path.{_≡_};
 ghost use Prim.Native.Nat.{_+_, _*_, _≤_};
@@ -53,8 +54,9 @@ fn work_list(
     strengths: &mut [f64],
     work: &mut [f64],
 )
-    requires { ⌜ slots ≡ Sets.slots m ⌝ }
-    requires { ⌜ listRefusal (record {
+    ghost { Sets.ListSet }
+    requires { λ s. ⌜ slots ≡ Sets.slots m ⌝ }
+    requires { λ s. ⌜ s ≡ record {
       tables = record {
         measures = m;
         settings = settings;
@@ -81,37 +83,9 @@ fn work_list(
       flags = now flags;
       strengths = now strengths;
       work = now work;
-    })
-        ≡ 0 ⌝ }
-    ensures { λ _. ⌜ (now (strengths .exit) ≡ listStrengths (record {
-      tables = record {
-        measures = m;
-        settings = settings;
-        symmetry = symmetry;
-        crystal = record {
-          vectors = now (vectors .entry);
-          multiplicity = now (multiplicity .entry);
-          masses = now (masses .entry);
-          forces = record {
-            form = form;
-            p2s = now (p2s .entry);
-            s2p = now (s2p .entry);
-            shortest = now (shortest .entry);
-            nonzero = now (nonzero .entry);
-            constants = now (constants .entry);
-          };
-        };
-        grid = record { mesh = mesh; matrix = matrix; addresses = now (addresses .entry) };
-        bands = now (bands .entry);
-        phonons = record { frequencies = now (frequencies .entry); eigenvectors = now (eigenvectors .entry) };
-      };
-      list = list;
-      triplets = now (triplets .entry);
-      flags = now (flags .entry);
-      strengths = now (strengths .entry);
-      work = now (work .entry);
-    }))
-        × (now (work .exit) ≡ cleared m (now (work .entry))) ⌝ }
+    } ⌝ }
+    requires { λ s. ⌜ listRefusal s ≡ 0 ⌝ }
+    ensures { λ s _. ⌜ (now (strengths .exit) ≡ listStrengths s) × (now (work .exit) ≡ cleared m (s .work)) ⌝ }
 {
     for t in 0..list {
         let from = t * slots;
@@ -225,10 +199,10 @@ pub fn get_interaction(
         strengths.len(),
         work.len(),
     );
-    let Checked::Good(z) = checked else {
+    let Checked::Good(m) = checked else {
         return answer_of(checked);
     };
-    let slots = z.slots;
+    let slots = sizes_of(m, form).slots;
     work_list(
         m,
         settings,

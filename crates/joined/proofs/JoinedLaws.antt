@@ -8,20 +8,21 @@ use lib.Ieee.{Float}
 use lib.ListN.{length}
 use Rattle.phonon.specs.declared.Answer.{Answer}
 use Rattle.phonon.specs.declared.Answer.the-variants.{Accepted}
-use Rattle.phonon.specs.declared.Sizes.{Sizes}
+use Rattle.phonon.specs.declared.Measures.{Measures}
 use Rattle.phonon.specs.declared.Weights.the-variants.{PerSlot}
-use Rattle.phonon.specs.Sets.{bandsOf, slots, JoinedSet, ofJoined}
+use Rattle.phonon.specs.Sets.{bandsOf, slots, JoinedSet, tripletOf, ofJoined}
 use Rattle.phonon.specs.Limits.{sizesOf, entriesOf}
 use Rattle.phonon.specs.Interaction.{strengths}
 use Rattle.phonon.specs.ImagSelfEnergy.{totals, sumJoined}
-use Rattle.phonon.specs.Refusal.{tableLengths, bufferLengths, sizes, joinedLengthsOk, tripletRefusal, joinedRefusal}
+use Rattle.phonon.specs.Refusal.{bathLengths, tripletTests, tripletRefusal, joinedRefusal}
 use Rattle.phonon.specs.Doors.{cleared, answerFor, JoinedOutcome, joinedWith, joinedLeaves, joinedOutcome}
-use Rattle.phonon.proofs.Accepted.{all-append, holds, passed}
-use Rattle.phonon.proofs.Shares.{tripletOf, joined-share}
-use Rattle.refusals.specs.declared.Checked.{Checked}
-use Rattle.refusals.specs.declared.Checked.the-variants.{Bad}
-use Rattle.refusals.specs.Answers.{checkedOf, answerOf}
-use Rattle.refusals.proofs.AnswerLaws.{turned-back}
+use Rattle.phonon.proofs.Lowest.{none-both, passing}
+use Rattle.phonon.proofs.Accepted.{holds}
+use Rattle.phonon.proofs.Shares.{joined-share}
+use Rattle.checks.specs.declared.verdict.Checked.{Checked}
+use Rattle.checks.specs.declared.verdict.Checked.the-variants.{Bad}
+use Rattle.checks.specs.Answers.{checkedOf, answerOf}
+use Rattle.checks.proofs.AnswerLaws.{turned-back}
 use Rattle.real_to_normal.proofs.AcceptedLaws.{facts}
 use Rattle.imag_self_energy.specs.Bands.{Sized}
 
@@ -32,13 +33,9 @@ pub record Lengths (s : JoinedSet) : Type 0 where
   pub totals : length (s .totals) ≡ s .tables .measures .first
 
 pub lengths : (s : JoinedSet) → joinedRefusal s ≡ 0 → Lengths s
-unfolding joinedRefusal joinedLengthsOk sizesOf
+unfolding joinedRefusal bathLengths sizesOf
 lengths s e =
-    let a = passed _ _ (omega arith) e in
-    let b = passed _ _ (omega arith) (a .1) in
-    let k = all-append (tableLengths (s .tables) (sizes (s .tables))) _ (b .0) in
-    let l = all-append (bufferLengths (sizes (s .tables) .slots) (sizes (s .tables)) (length (s .flags)) (length (s .strengths)) (length (s .work))) _ (k .1) in
-    let h = holds _ (l .1) in
+    let h = holds _ (passing _ refl (none-both (tripletTests (tripletOf s)) _ e .1) .0) in
     record { first = eqb-true _ _ (h .0); second = eqb-true _ _ (h .1 .0); totals = eqb-true _ _ (h .1 .1 .0) }
 
 module _ (s : JoinedSet) (e : joinedRefusal s ≡ 0) where
@@ -68,8 +65,8 @@ module _ (s : JoinedSet) (e : joinedRefusal s ≡ 0) where
   unfolding joinedOutcome joinedLeaves joinedWith answerFor
   accepted p q r = rw (e, q, p, r, lengths s e .totals) refl
 
-pub refused : (s : JoinedSet) (z : Sizes) (a : Answer) (b : Checked) (n : ℕ) → b ≡ checkedOf (joinedRefusal s) z → b ≡ Bad n → a ≡ answerOf b
+pub refused : (s : JoinedSet) (m : Measures) (a : Answer) (b : Checked) (n : ℕ) → b ≡ checkedOf (joinedRefusal s) m → b ≡ Bad n → a ≡ answerOf b
     → _≡_ {A = JoinedOutcome} (record { answer = a; strengths = s .strengths; totals = s .totals; work = s .work }) (joinedOutcome s)
 unfolding joinedOutcome joinedLeaves
-refused s z =
-    turned-back (λ r. joinedLeaves r s) (λ a. record { answer = a; strengths = s .strengths; totals = s .totals; work = s .work }) (λ n. refl) (joinedRefusal s) z
+refused s m =
+    turned-back (λ r. joinedLeaves r s) (λ a. record { answer = a; strengths = s .strengths; totals = s .totals; work = s .work }) (λ n. refl) (joinedRefusal s) m

@@ -1,5 +1,7 @@
 // One triplet and its totals joined: the strengths of interaction.rs, and from them the totals of
 // imag_self_energy.rs, never at a frequency point.
+use checks::verdict::Checked;
+use checks::verdict::answer_of;
 use imag_self_energy::write_totals;
 use phonon::Answer;
 use phonon::Bath;
@@ -9,8 +11,6 @@ use phonon::Settings;
 use phonon::Symmetry;
 use phonon::Weights;
 use real_to_normal::triplet::work_triplet;
-use refusals::Checked;
-use refusals::answer_of;
 use refusals::joined::check_joined;
 ghost use mathlib.Core.Path.{_≡_};
 ghost use Rattle.phonon.specs.Doors.{JoinedOutcome, joinedOutcome};
@@ -106,7 +106,7 @@ pub fn joined_at_triplet(
         totals.len(),
         work.len(),
     );
-    let Checked::Good(_) = checked else {
+    let Checked::Good(m) = checked else {
         return answer_of(checked);
     };
     work_triplet(

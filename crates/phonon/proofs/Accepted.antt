@@ -15,16 +15,11 @@ use Rattle.phonon.specs.Number.{index, int}
 use Rattle.phonon.specs.Tests.{allTrueAfter, allTrue, everyBelow, measured, within, allWithin}
 use Rattle.phonon.specs.Sets.{Tables, bandsOf, TripletSet}
 use Rattle.phonon.specs.Limits.{workLength, rowsOf, sizesOf}
-use Rattle.phonon.specs.Refusal.{measuresOk, tableLengths, bufferLengths, sizes, tripletLengthsOk, pointsOk, rangesOk, tableIndicesOk, indicesOk, Test, firstFailed, tripletRefusal}
+use Rattle.phonon.specs.Refusal.{measuresOk, tableLengths, bufferLengths, sizes, pointsOk, rangesOk, indicesOk, lowest, testsOf, tripletRefusal}
+pub use Rattle.phonon.proofs.Laws.{and-both, both-and}
+use Rattle.phonon.proofs.Lowest.{none-both, passing}
 
 -- ---- tests that hold
-
-pub and-both : (a b : Bool) → a && b ≡ true → (a ≡ true) × (b ≡ true)
-and-both true b e = (refl, e)
-and-both false b e = absurd (let z : _≡_ {A = ℕ} 0 1 = cc in omega arith)
-
-pub both-and : {a b : Bool} → a ≡ true → b ≡ true → a && b ≡ true
-both-and p q = rw (p, q)
 
 after-is : (a : Bool) (bs : List Bool) → allTrueAfter a bs ≡ a && allTrue bs
 unfolding allTrueAfter allTrue
@@ -109,25 +104,6 @@ index-below n l h e k m = go (int l k) (every-at (λ i. within (pos 0) (pos (n -
     go (pos i) f = omega (arith, leb-true i (n - 1) (and-both (leb 0 i) (leb i (n - 1)) f .1))
     go (negsuc i) f = h
 
--- ---- the first test that fails
-
-pub pass : (n : ℕ) (ts : List Test) {b : Bool} → b ≡ true → firstFailed (record { number = n; good = b } ∷ ts) ≡ firstFailed ts
-unfolding firstFailed
-pass n ts e = rw e
-
-pub stop : (n : ℕ) (ts : List Test) {b : Bool} → b ≡ false → firstFailed (record { number = n; good = b } ∷ ts) ≡ n
-unfolding firstFailed
-stop n ts e = rw e
-
--- the first of the tests of a refusal that is none, and the rest
-pub passed : (t : Test) (ts : List Test) → 0 < t .number → firstFailed (t ∷ ts) ≡ 0 → (t .good ≡ true) × (firstFailed ts ≡ 0)
-unfolding firstFailed
-passed t ts l = go (t .good)
-  where
-    go : (b : Bool) → cond b (firstFailed ts) (t .number) ≡ 0 → (b ≡ true) × (firstFailed ts ≡ 0)
-    go true e = (refl, e)
-    go false e = absurd (omega arith)
-
 -- ---- the facts of accepted tables
 
 -- the measures are within their limits
@@ -180,7 +156,11 @@ pub record TableSizes (t : Tables) : Type 0 where
   pub nonzero : length (t .crystal .forces .nonzero) ≡ rowsOf (t .crystal .forces .form) (t .measures) * t .measures .supercell * t .measures .supercell
   pub constants : length (t .crystal .forces .constants) ≡ rowsOf (t .crystal .forces .form) (t .measures) * t .measures .supercell * t .measures .supercell * 27
 
-pub size-facts : (t : Tables) → allTrue (tableLengths t (sizes t)) ≡ true → TableSizes t
+-- the tests of the tables' lengths
+abbrev pub lengthsOf : Tables → List Bool
+lengthsOf t = tableLengths (t .measures) (sizes t) (t .crystal) (t .grid .addresses) (t .bands) (t .phonons)
+
+pub size-facts : (t : Tables) → allTrue (lengthsOf t) ≡ true → TableSizes t
 unfolding tableLengths sizesOf
 size-facts t e =
     let h = holds _ e in
@@ -206,11 +186,36 @@ pub record Indexed (t : Tables) : Type 0 where
   pub bands : allWithin (pos 0) (pos (bandsOf (t .measures) - 1)) (t .bands) ≡ true
   pub ranges : rangesOk (t .measures .vectors) (t .measures .supercell * t .measures .atoms) (t .crystal .multiplicity) ≡ true
 
-pub index-facts : (t : Tables) → tableIndicesOk t ≡ true → Indexed t
-unfolding tableIndicesOk
+-- the test of the tables' indices
+abbrev pub indicesOf : Tables → Bool
+indicesOf t = indicesOk (t .measures) (t .crystal .multiplicity) (t .crystal .forces .p2s) (t .crystal .forces .s2p) (t .bands)
+
+pub index-facts : (t : Tables) → indicesOf t ≡ true → Indexed t
+unfolding indicesOk
 index-facts t e =
     let h = holds _ e in
     record { p2s = h .0; s2p = h .1 .0; bands = h .1 .1 .0; ranges = h .1 .1 .1 .0 }
+
+-- tables whose tests all pass
+pub record TablesGood (t : Tables) : Type 0 where
+  pub measures : measuresOk (t .measures) ≡ true
+  pub measured : Measured (t .measures)
+  pub lengths : allTrue (lengthsOf t) ≡ true
+  pub sized : TableSizes t
+  pub indices : indicesOf t ≡ true
+  pub indexed : Indexed t
+
+pub table-facts : (t : Tables) → lowest (testsOf t) ≡ 0 → TablesGood t
+table-facts t e =
+    let h = passing (testsOf t) refl e in
+    record {
+      measures = h .0;
+      measured = measured-facts (t .measures) (h .0);
+      lengths = h .1 .0;
+      sized = size-facts t (h .1 .0);
+      indices = h .1 .1 .0;
+      indexed = index-facts t (h .1 .1 .0);
+    }
 
 -- an accepted set of one triplet
 pub record Accepted (s : TripletSet) : Type 0 where
@@ -223,19 +228,17 @@ pub record Accepted (s : TripletSet) : Type 0 where
   pub work : workLength (s .tables .measures .atoms) (s .tables .measures .supercell) ≤ length (s .work)
 
 pub accepted-facts : (s : TripletSet) → tripletRefusal s ≡ 0 → Accepted s
-unfolding tripletRefusal tripletLengthsOk bufferLengths indicesOk sizesOf
+unfolding tripletRefusal bufferLengths sizesOf
 accepted-facts s e =
-    let a = passed _ _ (omega arith) e in
-    let b = passed _ _ (omega arith) (a .1) in
-    let c = passed _ _ (omega arith) (b .1) in
-    let k = all-append (tableLengths (s .tables) (sizes (s .tables))) _ (b .0) in
-    let h = holds _ (k .1) in
-    let i = and-both _ _ (c .0) in
+    let a = none-both (testsOf (s .tables)) _ e in
+    let t = table-facts (s .tables) (a .0) in
+    let g = passing _ refl (a .1) in
+    let h = holds _ (g .0) in
     record {
-      measured = measured-facts (s .tables .measures) (a .0);
-      sized = size-facts (s .tables) (k .0);
-      indexed = index-facts (s .tables) (i .1);
-      points = i .0;
+      measured = t .measured;
+      sized = t .sized;
+      indexed = t .indexed;
+      points = g .1 .0;
       flags = eqb-true _ _ (h .0);
       strengths = eqb-true _ _ (h .1 .0);
       work = leb-true _ _ (h .1 .1 .0);

@@ -13,10 +13,10 @@ use Rattle.phonon.specs.ReciprocalToNormal.{inverseRoot, inverseRoots, c
 use Rattle.phonon.specs.Interaction.{orders, exchanged, reciprocals, sixth, value, phononsAt, strengthWith, strengthAt, slotWith, strengthsWith, strengths, listStrengths}
 use Rattle.phonon.specs.ImagSelfEnergy.{block, counted, contribution, slotTerm, total, totals}
 use Rattle.phonon.specs.Limits.{workLength, rowsOf, sizesOf, entriesOf}
-use Rattle.phonon.specs.Refusal.{measuresOk, totalsMeasuresOk, tableLengths, bufferLengths, tripletLengthsOk, listLengthsOk, totalsLengthsOk, joinedLengthsOk, pointsOk, rangesOk, tableIndicesOk, indicesOk, tablesFinite, bathFinite, totalsFinite, meshOk, massesOk, cutoffOk, bathOk, legPhasesOk, prePhasesOk, phasesOk, firstFailed, tripletRefusal, listRefusal, totalsRefusal, joinedRefusal}
+use Rattle.phonon.specs.Refusal.{lower, lowest, measuresOk, tableLengths, bufferLengths, bathLengths, aloneLengths, pointsOk, rangesOk, indicesOk, tablesFinite, bathFinite, aloneFinite, meshOk, massesOk, cutoffOk, bathOk, legPhasesOk, prePhasesOk, ordersOk, phasesOk, tripletRefusal, listRefusal, totalsRefusal, joinedRefusal}
 use Rattle.phonon.specs.Doors.{answerFor, cleared, tripletLeaves, tripletOutcome, listLeaves, listOutcome, totalsLeaves, totalsOutcome, joinedWith, joinedLeaves, joinedOutcome}
 use Rattle.phonon.specs.KeyCases.{cellU, holding, worked, untouched}
 
 unfoldable pub evaluate : ℕ
-unfolding add sub mul div neg lt le eq ofInt toUnsigned ofBits fold tableFrom table countdown cadd cmul scale isZero cat pairs ctable root exp inDomain sinCos excess boseEinstein allTrue everyBelow finite signBit allFinite within allWithin vectorRange addressOver qEntry qAt phase cis phaseFactor phaseFactorEntry phaseFactors prePhase anchorVector preFactorEntry preFactors term pairTaken pairTerm element over3 plainElement averagedElement anchored reciprocalEntry reciprocalFrom reciprocal inverseRoot inverseRoots columnEntry column phononAt addUnlessZero contractTurn contractEntry contract lane dot rowEntry rows amplitude squared anyCut strengthFrom strength orders exchanged reciprocals sixth value phononsAt strengthWith strengthAt slotWith strengthsWith strengths listStrengths block counted contribution slotTerm total totals workLength rowsOf sizesOf entriesOf measuresOk totalsMeasuresOk tableLengths bufferLengths tripletLengthsOk listLengthsOk totalsLengthsOk joinedLengthsOk pointsOk rangesOk tableIndicesOk indicesOk tablesFinite bathFinite totalsFinite meshOk massesOk cutoffOk bathOk legPhasesOk prePhasesOk phasesOk firstFailed tripletRefusal listRefusal totalsRefusal joinedRefusal answerFor cleared tripletLeaves tripletOutcome listLeaves listOutcome totalsLeaves totalsOutcome joinedWith joinedLeaves joinedOutcome cellU holding worked untouched
+unfolding add sub mul div neg lt le eq ofInt toUnsigned ofBits fold tableFrom table countdown cadd cmul scale isZero cat pairs ctable root exp inDomain sinCos excess boseEinstein allTrue everyBelow finite signBit allFinite within allWithin vectorRange addressOver qEntry qAt phase cis phaseFactor phaseFactorEntry phaseFactors prePhase anchorVector preFactorEntry preFactors term pairTaken pairTerm element over3 plainElement averagedElement anchored reciprocalEntry reciprocalFrom reciprocal inverseRoot inverseRoots columnEntry column phononAt addUnlessZero contractTurn contractEntry contract lane dot rowEntry rows amplitude squared anyCut strengthFrom strength orders exchanged reciprocals sixth value phononsAt strengthWith strengthAt slotWith strengthsWith strengths listStrengths block counted contribution slotTerm total totals workLength rowsOf sizesOf entriesOf lower lowest measuresOk tableLengths bufferLengths bathLengths aloneLengths pointsOk rangesOk indicesOk tablesFinite bathFinite aloneFinite meshOk massesOk cutoffOk bathOk legPhasesOk prePhasesOk ordersOk phasesOk tripletRefusal listRefusal totalsRefusal joinedRefusal answerFor cleared tripletLeaves tripletOutcome listLeaves listOutcome totalsLeaves totalsOutcome joinedWith joinedLeaves joinedOutcome cellU holding worked untouched
 evaluate = 0

@@ -1,10 +1,11 @@
--- Laws of folds and tables.
+-- Laws of folds and tables, and of two tests.
 use Prim.Native.Nat.{ℕ, zero, suc, _+_, _-_, _*_, _/_, _%_, _<_, _≤_}
 use native.Mathlib.Nat.{add-zero, zero-mul, suc-mul, mul-le-mul-right}
 use native.Mathlib.Omega.{arith}
 use native.Mathlib.Numerals.{add-one}
 use native.Mathlib.Decide.{decLt}
 use mathlib.Core.Path.{_≡_, refl, sym, ap, ap₂, _∙_}
+use mathlib.Core.Bool.{Bool, true, false, _&&_}
 use mathlib.Core.List.{List, [], _∷_, _++_}
 use lib.Arith.{digits-lt, digits-div, digits-mod}
 use lib.ListN.{getD, length, take, drop, length-append, length-drop}
@@ -151,3 +152,12 @@ tableFrom-snoc i (suc n) f =
 pub table-snoc : {A : Type 0} (n : ℕ) (f : ℕ → A) → table (n + 1) f ≡ table n f ++ (f n ∷ [])
 unfolding table
 table-snoc n f = let e : 0 + n ≡ n = omega arith in rw (add-one n) (tableFrom-snoc 0 n f ∙ rw e)
+
+-- ---- tests that both hold
+
+pub and-both : (a b : Bool) → a && b ≡ true → (a ≡ true) × (b ≡ true)
+and-both true b e = (refl, e)
+and-both false b e = absurd (let z : _≡_ {A = ℕ} 0 1 = cc in omega arith)
+
+pub both-and : {a b : Bool} → a ≡ true → b ≡ true → a && b ≡ true
+both-and p q = rw (p, q)

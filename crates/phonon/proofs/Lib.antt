@@ -4,6 +4,7 @@ pub mod Cases
 pub mod Laws
 pub mod Order
 pub mod TwoRuns
+pub mod Lowest
 pub mod Accepted
 pub mod Shares
 pub mod SameSets

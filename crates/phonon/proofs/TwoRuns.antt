@@ -19,8 +19,8 @@ use Rattle.phonon.specs.ReciprocalToNormal.{inverseRoots, columnEntry, c
 use Rattle.phonon.specs.Interaction.{orders, leg, exchanged, orderCount, point, reciprocals, sixth, value, phononsAt, strengthWith, strengthAt, slotWith, strengthsWith, strengths, listStrengths}
 use Rattle.phonon.specs.ImagSelfEnergy.{Sum, second1, third2, counted, slotTerm, total, totals, sumAlone, sumJoined}
 use Rattle.phonon.specs.Refusal.{tripletRefusal, listRefusal, totalsRefusal, joinedRefusal}
-use Rattle.phonon.specs.Doors.{answerFor, tripletLeaves, tripletOutcome, listLeaves, listOutcome, totalsLeaves, totalsOutcome, joinedWith, joinedLeaves, joinedOutcome}
-use Rattle.phonon.specs.Demand3.{Run, one, joined, share, IsAccepted, worked, written, Narrowed, Unchanged, Stays, IsSlot, Kept, SameStrength, SameBath, SameElse, SameSlot, Demand3}
+use Rattle.phonon.specs.Doors.{numberOf, answerFor, tripletLeaves, tripletOutcome, listLeaves, listOutcome, totalsLeaves, totalsOutcome, joinedWith, joinedLeaves, joinedOutcome}
+use Rattle.phonon.specs.Demand3.{Run, one, joined, share, IsAccepted, worked, written, Narrowed, Unchanged, Stays, IsSlot, Kept, SameStrength, SameBath, SameElse, SameSlot, SameTotal, SameAlone, Demand3}
 use Rattle.phonon.proofs.Laws.{fold-ext, ctable-ext, table-at, table-length, div-of, mod-of, joined-part, pair-lt, part-at}
 use Rattle.phonon.proofs.Order.{to-T, is-false, lt-not-le, le-lt}
 
@@ -111,7 +111,7 @@ module _ (x y : Triplet) (n : Narrowed x y) where
         let r = below-both _ _ _ _ (n .raised) refl (h .stays2 .above) in
         (record { at0 = p .0; at1 = q .0; at2 = r .0 }, record { at0 = p .1; at1 = q .1; at2 = r .1 })
 
-    kept-strength : strengthAt x b j k ≡ strengthAt y b j k
+    pub kept-strength : strengthAt x b j k ≡ strengthAt y b j k
     unfolding strengthAt strengthWith
     kept-strength =
         let inv = inverseRoots (y .tables .measures .atoms) (y .tables .crystal .masses) in
@@ -120,7 +120,7 @@ module _ (x y : Triplet) (n : Narrowed x y) where
         ∙ value-same (y .tables .measures .atoms) (phononsAt y inv b j k) _ _ (c .0) (c .1) (y .tables .symmetry) (reciprocals y)
 
     -- it is not flagged in the first run either
-    kept-first : flagged (x .flags) (slot (bandsOf (x .tables .measures)) b j k) ≡ false
+    pub kept-first : flagged (x .flags) (slot (bandsOf (x .tables .measures)) b j k) ≡ false
     kept-first = go (flagged (x .flags) s) refl
       where
         s : ℕ
@@ -136,10 +136,10 @@ module _ (x y : Triplet) (n : Narrowed x y) where
 -- ---- what stands in a slot after the call
 
 module _ (t : Triplet) (b j k : ℕ) (s : IsSlot t b j k) where
-  slot-lt : slot (bandsOf (t .tables .measures)) b j k < slots (t .tables .measures)
+  pub slot-lt : slot (bandsOf (t .tables .measures)) b j k < slots (t .tables .measures)
   slot-lt = pair-lt (pair-lt (s .first) (s .second)) (s .third)
 
-  strengths-at : (v : List Float) → flagged (t .flags) (slot (bandsOf (t .tables .measures)) b j k) ≡ false
+  pub strengths-at : (v : List Float) → flagged (t .flags) (slot (bandsOf (t .tables .measures)) b j k) ≡ false
       → at (strengths t v) (slot (bandsOf (t .tables .measures)) b j k) ≡ strengthAt t b j k
   unfolding strengths strengthsWith slotWith strengthAt
   strengths-at v u =
@@ -147,11 +147,11 @@ module _ (t : Triplet) (b j k : ℕ) (s : IsSlot t b j k) where
       table-at (slots (t .tables .measures)) (slot B b j k) _ nan slot-lt
       ∙ rw (div-of B (s .third) (b * B + j), mod-of B (s .third) (b * B + j), div-of B (s .second) b, mod-of B (s .second) b, u)
 
-strengths-length : (t : Triplet) (v : List Float) → length (strengths t v) ≡ slots (t .tables .measures)
+pub strengths-length : (t : Triplet) (v : List Float) → length (strengths t v) ≡ slots (t .tables .measures)
 unfolding strengths strengthsWith
 strengths-length t v = table-length (slots (t .tables .measures)) _
 
-list-at : (s : ListSet) (t m : ℕ) → t < s .list → m < slots (s .tables .measures)
+pub list-at : (s : ListSet) (t m : ℕ) → t < s .list → m < slots (s .tables .measures)
     → at (listStrengths s) (t * slots (s .tables .measures) + m) ≡ at (strengths (ofList s t) (part (slots (s .tables .measures)) t (s .strengths))) m
 unfolding listStrengths
 list-at s t m p q =
@@ -165,7 +165,13 @@ no-refusal : (m : ℕ) → answerFor (suc m) ≡ Accepted → ⊥
 unfolding answerFor
 no-refusal m e = let z : _≡_ {A = ℕ} 0 1 = cc in omega arith
 
-triplet-left : (s : TripletSet) → tripletOutcome s .answer ≡ Accepted → tripletOutcome s .strengths ≡ strengths (ofTriplet s) (s .strengths)
+-- the number of the answer to a refusal is the refusal
+pub number-back : (n : ℕ) → numberOf (answerFor n) ≡ n
+unfolding numberOf answerFor
+number-back zero = refl
+number-back (suc n) = refl
+
+pub triplet-left : (s : TripletSet) → tripletOutcome s .answer ≡ Accepted → tripletOutcome s .strengths ≡ strengths (ofTriplet s) (s .strengths)
 unfolding tripletOutcome tripletLeaves
 triplet-left s = go (tripletRefusal s)
   where
@@ -173,7 +179,7 @@ triplet-left s = go (tripletRefusal s)
     go zero e = refl
     go (suc m) e = absurd (no-refusal m e)
 
-list-left : (s : ListSet) → listOutcome s .answer ≡ Accepted → listOutcome s .strengths ≡ listStrengths s
+pub list-left : (s : ListSet) → listOutcome s .answer ≡ Accepted → listOutcome s .strengths ≡ listStrengths s
 unfolding listOutcome listLeaves
 list-left s = go (listRefusal s)
   where
@@ -181,7 +187,7 @@ list-left s = go (listRefusal s)
     go zero e = refl
     go (suc m) e = absurd (no-refusal m e)
 
-joined-left : (s : JoinedSet) → joinedOutcome s .answer ≡ Accepted → joinedOutcome s ≡ joinedWith s (strengths (ofJoined s) (s .strengths))
+pub joined-left : (s : JoinedSet) → joinedOutcome s .answer ≡ Accepted → joinedOutcome s ≡ joinedWith s (strengths (ofJoined s) (s .strengths))
 unfolding joinedOutcome joinedLeaves
 joined-left s = go (joinedRefusal s)
   where
@@ -189,7 +195,7 @@ joined-left s = go (joinedRefusal s)
     go zero e = refl
     go (suc m) e = absurd (no-refusal m e)
 
-totals-left : (s : TotalsSet) → totalsOutcome s .answer ≡ Accepted
+pub totals-left : (s : TotalsSet) → totalsOutcome s .answer ≡ Accepted
     → totalsOutcome s .totals ≡ totals (s .measures .first) (sumAlone s) (s .bath .temperature) (s .strengths)
 unfolding totalsOutcome totalsLeaves
 totals-left s = go (totalsRefusal s)
@@ -199,7 +205,7 @@ totals-left s = go (totalsRefusal s)
     go (suc m) e = absurd (no-refusal m e)
 
 -- an unflagged slot of an accepted run holds demand 2's strength
-written-is : (r : Run) → IsAccepted r → (b j k : ℕ) → IsSlot (worked r) b j k
+pub written-is : (r : Run) → IsAccepted r → (b j k : ℕ) → IsSlot (worked r) b j k
     → flagged (worked r .flags) (slot (bandsOf (worked r .tables .measures)) b j k) ≡ false
     → written r (slot (bandsOf (worked r .tables .measures)) b j k) ≡ strengthAt (worked r) b j k
 unfolding joinedWith
@@ -213,11 +219,11 @@ written-is (share s t) a b j k i u =
     ∙ strengths-at (ofList s t) b j k i (part (slots (s .tables .measures)) t (s .strengths)) u
 
 -- (b, j, k) is a slot of the second run too
-slot-second : (x y : Triplet) → Narrowed x y → (b j k : ℕ) → IsSlot x b j k → IsSlot y b j k
+pub slot-second : (x y : Triplet) → Narrowed x y → (b j k : ℕ) → IsSlot x b j k → IsSlot y b j k
 slot-second x y n b j k i =
     record { first = subst (λ m. b < m .first) (n .measures) (i .first); second = subst (λ m. j < bandsOf m) (n .measures) (i .second); third = subst (λ m. k < bandsOf m) (n .measures) (i .third) }
 
-same-strength : (r r′ : Run) → IsAccepted r → IsAccepted r′ → Narrowed (worked r) (worked r′) → (b j k : ℕ) → IsSlot (worked r) b j k
+pub same-strength : (r r′ : Run) → IsAccepted r → IsAccepted r′ → Narrowed (worked r) (worked r′) → (b j k : ℕ) → IsSlot (worked r) b j k
     → Kept (worked r) (worked r′) b j k → SameStrength r r′ b j k
 same-strength r r′ a a′ n b j k i h =
     let p = written-is r a b j k i (kept-first (worked r) (worked r′) n b j k h) in
@@ -227,11 +233,11 @@ same-strength r r′ a a′ n b j k i h =
 -- ---- totals
 
 -- what two sums have alike for their totals of position b to be the same
-record SameSum (s s′ : Sum) (v v′ : List Float) (b : ℕ) : Type 0 where
-  counts : (j k : ℕ) → j < s .bands → k < s .bands → counted s b j k ≡ counted s′ b j k
-  strength : (j k : ℕ) → j < s .bands → k < s .bands → counted s b j k ≡ true → at v (slot (s .bands) b j k) ≡ at v′ (slot (s .bands) b j k)
-  second : (j k : ℕ) → j < s .bands → k < s .bands → counted s b j k ≡ true → second1 s j ≡ second1 s′ j
-  third : (j k : ℕ) → j < s .bands → k < s .bands → counted s b j k ≡ true → third2 s k ≡ third2 s′ k
+pub record SameSum (s s′ : Sum) (v v′ : List Float) (b : ℕ) : Type 0 where
+  pub counts : (j k : ℕ) → j < s .bands → k < s .bands → counted s b j k ≡ counted s′ b j k
+  pub strength : (j k : ℕ) → j < s .bands → k < s .bands → counted s b j k ≡ true → at v (slot (s .bands) b j k) ≡ at v′ (slot (s .bands) b j k)
+  pub second : (j k : ℕ) → j < s .bands → k < s .bands → counted s b j k ≡ true → second1 s j ≡ second1 s′ j
+  pub third : (j k : ℕ) → j < s .bands → k < s .bands → counted s b j k ≡ true → third2 s k ≡ third2 s′ k
 
 step-same : (a a′ : Bool) (t x x′ : Float) → a ≡ a′ → (a ≡ true → x ≡ x′) → cond a (t ⊕ x) t ≡ cond a′ (t ⊕ x′) t
 step-same true a′ t x x′ e f = ap (λ y. t ⊕ y) (f refl) ∙ ap (λ d. cond d (t ⊕ x′) t) e
@@ -262,14 +268,14 @@ total-moved s z temperature v v′ b r =
     term-same j k p q e = cc
 
 -- two sums that are alike in the rest
-record SameRest (s s′ : Sum) : Type 0 where
-  weights : s .weights ≡ s′ .weights
-  bands : s .bands ≡ s′ .bands
-  weight : s .weight ≡ s′ .weight
-  first : s .first ≡ s′ .first
-  second : s .second ≡ s′ .second
+pub record SameRest (s s′ : Sum) : Type 0 where
+  pub weights : s .weights ≡ s′ .weights
+  pub bands : s .bands ≡ s′ .bands
+  pub weight : s .weight ≡ s′ .weight
+  pub first : s .first ≡ s′ .first
+  pub second : s .second ≡ s′ .second
 
-total-same : (s s′ : Sum) (temperature : Float) (v v′ : List Float) (b : ℕ) → SameRest s s′ → SameSum s s′ v v′ b → total s temperature v b ≡ total s′ temperature v′ b
+pub total-same : (s s′ : Sum) (temperature : Float) (v v′ : List Float) (b : ℕ) → SameRest s s′ → SameSum s s′ v v′ b → total s temperature v b ≡ total s′ temperature v′ b
 total-same s s′ temperature v v′ b r =
     subst (λ z. SameSum s z v v′ b → total s temperature v b ≡ total z temperature v′ b) path (total-moved s s′ temperature v v′ b)
   where
@@ -286,45 +292,71 @@ total-same s s′ temperature v v′ b r =
       second = r .second i;
     }
 
-totals-at : (F : ℕ) (s : Sum) (temperature : Float) (v : List Float) (b : ℕ) → b < F → at (totals F s temperature v) b ≡ total s temperature v b
+pub totals-at : (F : ℕ) (s : Sum) (temperature : Float) (v : List Float) (b : ℕ) → b < F → at (totals F s temperature v) b ≡ total s temperature v b
 unfolding totals
 totals-at F s temperature v b l = table-at F b _ nan l
 
-same-alone : (s s′ : TotalsSet) → totalsOutcome s .answer ≡ Accepted → totalsOutcome s′ .answer ≡ Accepted → SameElse s s′
+-- the totals that an accepted call leaves
+pub alone-is : (s : TotalsSet) → totalsOutcome s .answer ≡ Accepted → (b : ℕ) → b < s .measures .first
+    → at (totalsOutcome s .totals) b ≡ total (sumAlone s) (s .bath .temperature) (s .strengths) b
+alone-is s a b l = ap (λ x. at x b) (totals-left s a) ∙ totals-at _ _ _ _ b l
+
+pub joined-is : (s : JoinedSet) → IsAccepted (joined s) → (b : ℕ) → b < s .tables .measures .first
+    → at (joinedOutcome s .totals) b ≡ total (sumJoined s) (s .bath .temperature) (strengths (ofJoined s) (s .strengths)) b
+unfolding joinedWith
+joined-is s a b l = ap (λ o. at (o .totals) b) (joined-left s a) ∙ totals-at _ _ _ _ b l
+
+-- .. of the strengths that it leaves
+joined-own : (s : JoinedSet) → IsAccepted (joined s) → (b : ℕ) → b < s .tables .measures .first
+    → at (joinedOutcome s .totals) b ≡ total (sumJoined s) (s .bath .temperature) (joinedOutcome s .strengths) b
+unfolding joinedWith
+joined-own s a b l = joined-is s a b l ∙ sym (ap (λ o. total (sumJoined s) (s .bath .temperature) (o .strengths) b) (joined-left s a))
+
+pub same-alone : (s s′ : TotalsSet) → totalsOutcome s .answer ≡ Accepted → totalsOutcome s′ .answer ≡ Accepted → SameElse s s′
     → (b : ℕ) → b < s .measures .first
     → ((j k : ℕ) → j < 3 * s .measures .atoms → k < 3 * s .measures .atoms → counted (sumAlone s) b j k ≡ counted (sumAlone s′) b j k)
     → ((j k : ℕ) → j < 3 * s .measures .atoms → k < 3 * s .measures .atoms → counted (sumAlone s) b j k ≡ true → SameSlot s s′ b j k)
-    → at (totalsOutcome s .totals) b ≡ at (totalsOutcome s′ .totals) b
+    → SameAlone s s′ b
 same-alone s s′ a a′ e b l counts same =
-    ap (λ x. at x b) (totals-left s a) ∙ totals-at _ _ _ _ b l
-    ∙ total-same (sumAlone s) (sumAlone s′) (s .bath .temperature) (s .strengths) (s′ .strengths) b rest (record {
-      counts = counts;
-      strength = λ j k p q c. same j k p q c .strength;
-      second = λ j k p q c. same j k p q c .second;
-      third = λ j k p q c. same j k p q c .third;
-    })
-    ∙ (λ i. total (sumAlone s′) (e .bath i .temperature) (s′ .strengths) b)
-    ∙ sym (ap (λ x. at x b) (totals-left s′ a′) ∙ totals-at _ _ _ _ b (subst (λ m. b < m .first) (e .measures) l))
+    let p = alone-is s a b l in
+    let q = alone-is s′ a′ b (subst (λ m. b < m .first) (e .measures) l) in
+    record {
+      first = p;
+      second = q;
+      same = p
+          ∙ total-same (sumAlone s) (sumAlone s′) (s .bath .temperature) (s .strengths) (s′ .strengths) b rest (record {
+            counts = counts;
+            strength = λ j k p q c. same j k p q c .strength;
+            second = λ j k p q c. same j k p q c .second;
+            third = λ j k p q c. same j k p q c .third;
+          })
+          ∙ (λ i. total (sumAlone s′) (e .bath i .temperature) (s′ .strengths) b)
+          ∙ sym q;
+    }
   where
     rest : SameRest (sumAlone s) (sumAlone s′)
     rest = record { weights = e .weights; bands = λ i. 3 * e .measures i .atoms; weight = λ i. e .bath i .weight; first = e .first; second = e .second }
 
-same-total : (s s′ : JoinedSet) → IsAccepted (joined s) → IsAccepted (joined s′) → Narrowed (ofJoined s) (ofJoined s′) → SameBath s s′
+pub same-total : (s s′ : JoinedSet) → IsAccepted (joined s) → IsAccepted (joined s′) → Narrowed (ofJoined s) (ofJoined s′) → SameBath s s′
     → (b : ℕ) → b < s .tables .measures .first
     → ((j k : ℕ) → IsSlot (ofJoined s) b j k → counted (sumJoined s) b j k ≡ counted (sumJoined s′) b j k)
     → ((j k : ℕ) → IsSlot (ofJoined s) b j k → counted (sumJoined s) b j k ≡ true → Kept (ofJoined s) (ofJoined s′) b j k)
-    → at (joinedOutcome s .totals) b ≡ at (joinedOutcome s′ .totals) b
-unfolding joinedWith
+    → SameTotal s s′ b
 same-total s s′ a a′ n e b l counts kept =
-    ap (λ o. at (o .totals) b) (joined-left s a) ∙ totals-at _ _ _ _ b l
-    ∙ total-same (sumJoined s) (sumJoined s′) (s .bath .temperature) (strengths (ofJoined s) (s .strengths)) (strengths (ofJoined s′) (s′ .strengths)) b rest (record {
-      counts = λ j k p q. counts j k (is j k p q);
-      strength = λ j k p q c. of-slot j k (is j k p q) (kept j k (is j k p q) c);
-      second = λ j k p q c. later j 1 (kept j k (is j k p q) c .stays1);
-      third = λ j k p q c. later k 2 (kept j k (is j k p q) c .stays2);
-    })
-    ∙ (λ i. total (sumJoined s′) (e .bath i .temperature) (strengths (ofJoined s′) (s′ .strengths)) b)
-    ∙ sym (ap (λ o. at (o .totals) b) (joined-left s′ a′) ∙ totals-at _ _ _ _ b (subst (λ m. b < m .first) (n .measures) l))
+    let l′ = subst (λ m. b < m .first) (n .measures) l in
+    record {
+      first = joined-own s a b l;
+      second = joined-own s′ a′ b l′;
+      same = joined-is s a b l
+          ∙ total-same (sumJoined s) (sumJoined s′) (s .bath .temperature) (strengths (ofJoined s) (s .strengths)) (strengths (ofJoined s′) (s′ .strengths)) b rest (record {
+            counts = λ j k p q. counts j k (is j k p q);
+            strength = λ j k p q c. of-slot j k (is j k p q) (kept j k (is j k p q) c);
+            second = λ j k p q c. later j 1 (kept j k (is j k p q) c .stays1);
+            third = λ j k p q c. later k 2 (kept j k (is j k p q) c .stays2);
+          })
+          ∙ (λ i. total (sumJoined s′) (e .bath i .temperature) (strengths (ofJoined s′) (s′ .strengths)) b)
+          ∙ sym (joined-is s′ a′ b l′);
+    }
   where
     rest : SameRest (sumJoined s) (sumJoined s′)
     rest = record { weights = refl; bands = λ i. bandsOf (n .measures i); weight = λ i. e .bath i .weight; first = e .first; second = e .second }

@@ -9,7 +9,7 @@ use Rattle.phonon.specs.Number.{at, index, int, flagged}
 use Rattle.phonon.specs.Common.{cat}
 use Rattle.phonon.specs.Sets.{Phonons, Triplet, bandsOf, slot, slots, TripletSet, ListSet, TotalsSet, JoinedSet, ofTriplet, ofJoined, ofList}
 use Rattle.phonon.specs.Interaction.{point, strengthAt}
-use Rattle.phonon.specs.ImagSelfEnergy.{sumAlone, sumJoined, second1, third2, counted}
+use Rattle.phonon.specs.ImagSelfEnergy.{sumAlone, sumJoined, second1, third2, counted, total}
 use Rattle.phonon.specs.Doors.{tripletOutcome, listOutcome, totalsOutcome, joinedOutcome}
 
 -- ---- runs
@@ -104,6 +104,18 @@ pub record SameSlot (s s′ : TotalsSet) (b j k : ℕ) : Type 0 where
   pub second : second1 (sumAlone s) j ≡ second1 (sumAlone s′) j
   pub third : third2 (sumAlone s) k ≡ third2 (sumAlone s′) k
 
+-- a first band's total in two calls of the joined door: each is demand 2's total of its call's strengths, and they are the same
+pub record SameTotal (s s′ : JoinedSet) (b : ℕ) : Type 0 where
+  pub first : at (joinedOutcome s .totals) b ≡ total (sumJoined s) (s .bath .temperature) (joinedOutcome s .strengths) b
+  pub second : at (joinedOutcome s′ .totals) b ≡ total (sumJoined s′) (s′ .bath .temperature) (joinedOutcome s′ .strengths) b
+  pub same : at (joinedOutcome s .totals) b ≡ at (joinedOutcome s′ .totals) b
+
+-- the same of two calls of totals alone
+pub record SameAlone (s s′ : TotalsSet) (b : ℕ) : Type 0 where
+  pub first : at (totalsOutcome s .totals) b ≡ total (sumAlone s) (s .bath .temperature) (s .strengths) b
+  pub second : at (totalsOutcome s′ .totals) b ≡ total (sumAlone s′) (s′ .bath .temperature) (s′ .strengths) b
+  pub same : at (totalsOutcome s .totals) b ≡ at (totalsOutcome s′ .totals) b
+
 -- ---- the claim, over every pair of runs
 
 pub record Demand3 : Type 0 where
@@ -115,10 +127,10 @@ pub record Demand3 : Type 0 where
       → (b : ℕ) → b < s .tables .measures .first
       → ((j k : ℕ) → IsSlot (ofJoined s) b j k → counted (sumJoined s) b j k ≡ counted (sumJoined s′) b j k)
       → ((j k : ℕ) → IsSlot (ofJoined s) b j k → counted (sumJoined s) b j k ≡ true → Kept (ofJoined s) (ofJoined s′) b j k)
-      → at (joinedOutcome s .totals) b ≡ at (joinedOutcome s′ .totals) b
+      → SameTotal s s′ b
   -- totals alone: a position whose counted slots are the same, with the same strengths and later frequencies there, has the same total
   pub alone : (s s′ : TotalsSet) → totalsOutcome s .answer ≡ Accepted → totalsOutcome s′ .answer ≡ Accepted → SameElse s s′
       → (b : ℕ) → b < s .measures .first
       → ((j k : ℕ) → j < 3 * s .measures .atoms → k < 3 * s .measures .atoms → counted (sumAlone s) b j k ≡ counted (sumAlone s′) b j k)
       → ((j k : ℕ) → j < 3 * s .measures .atoms → k < 3 * s .measures .atoms → counted (sumAlone s) b j k ≡ true → SameSlot s s′ b j k)
-      → at (totalsOutcome s .totals) b ≡ at (totalsOutcome s′ .totals) b
+      → SameAlone s s′ b

@@ -2,12 +2,13 @@
 use Prim.Native.Nat.{ℕ, zero, suc, _/_, _%_}
 use mathlib.Core.Bool.{cond}
 use mathlib.Core.List.{List, [], _∷_, _++_}
+use lib.IntN.{ℤ}
 use lib.Ieee.{Float}
 use lib.ListN.{getD}
 use Rattle.phonon.specs.declared.Symmetry.{Symmetry}
 use Rattle.phonon.specs.declared.Symmetry.the-variants.{Off, Symmetrized}
 use Rattle.phonon.specs.Number.{_⊕_, _⊘_, f0, f6, index, at, int, flagged, fold, table}
-use Rattle.phonon.specs.Sets.{bandsOf, Triplet, slot, slots, part, ListSet, ofList, Legs}
+use Rattle.phonon.specs.Sets.{Grid, bandsOf, Triplet, slot, slots, part, ListSet, ofList, Legs}
 use Rattle.phonon.specs.RealToReciprocal.{qAt, reciprocal}
 use Rattle.phonon.specs.ReciprocalToNormal.{inverseRoots, Phonon, phononAt, strength}
 
@@ -47,8 +48,12 @@ orderCount Symmetrized = 6
 abbrev pub point : Triplet → ℕ → ℕ
 point t x = index (int (t .points) x)
 
+-- the q of three grid points, and of a triplet's three legs
+abbrev pub legsAt : Grid → List ℤ → Legs (List Float)
+legsAt g points = record { leg0 = qAt g (index (int points 0)); leg1 = qAt g (index (int points 1)); leg2 = qAt g (index (int points 2)) }
+
 abbrev pub legQ : Triplet → Legs (List Float)
-legQ t = record { leg0 = qAt (t .tables .grid) (point t 0); leg1 = qAt (t .tables .grid) (point t 1); leg2 = qAt (t .tables .grid) (point t 2) }
+legQ t = legsAt (t .tables .grid) (t .points)
 
 -- the force constants in reciprocal space, for each order that is used
 unfoldable pub reciprocals : Triplet → List (List Float)

@@ -1,6 +1,7 @@
--- Document 01, "Turned back at the door": each number is one test, true where the set passes, and the lowest number whose test fails is given.
--- A door tests only what it is handed: totals alone has no number 5, 6 and 9, and the doors without a bath have no number 8.
-use Prim.Native.Nat.{ℕ, _+_, _-_, _*_}
+-- Document 01, "Turned back at the door": each number is one test, true where the set passes, and of the tests that fail the lowest number is given.
+-- Tests stand in groups by what they read, and a door has the groups of what it is handed: totals alone has no number 5, 6 and 9, and the doors without a
+-- bath have no number 8. Each test is over just the slices that it reads.
+use Prim.Native.Nat.{ℕ, zero, suc, _+_, _-_, _*_}
 use mathlib.Core.Bool.{Bool, not, _&&_, cond}
 use mathlib.Core.List.{List, [], _∷_, _++_}
 use lib.Dec.{leb, eqb}
@@ -8,16 +9,34 @@ use lib.IntN.{ℤ, pos}
 use lib.Ieee.{Float, lt}
 use lib.ListN.{length}
 use Rattle.phonon.specs.declared.Measures.{Measures}
-use Rattle.phonon.specs.declared.TotalsMeasures.{TotalsMeasures}
+use Rattle.phonon.specs.declared.Symmetry.{Symmetry}
 use Rattle.phonon.specs.declared.Bath.{Bath}
 use Rattle.phonon.specs.declared.Sizes.{Sizes}
 use Rattle.phonon.specs.Number.{f0, index, at, int}
 use Rattle.phonon.specs.Trig.{inDomain}
 use Rattle.phonon.specs.Tests.{allTrue, everyBelow, finite, signBit, allFinite, allWithin, vectorRange}
-use Rattle.phonon.specs.Sets.{Tables, bandsOf, Triplet, TripletSet, ListSet, TotalsSet, JoinedSet, ofTriplet, ofJoined, ofList, Legs}
+use Rattle.phonon.specs.Sets.{Crystal, Grid, Phonons, Tables, bandsOf, slots, Triplet, TripletSet, ListSet, TotalsSet, JoinedSet, measuresOf, ofTriplet, tripletOf, ofList, Legs}
 use Rattle.phonon.specs.Limits.{atomsOk, supercellOk, firstOk, gridOk, vectorsOk, listOk, lowestAddress, highestAddress, lowestMesh, highestMesh, lowestMatrix, highestMatrix, weightOk, sizesOf, entriesOf}
 use Rattle.phonon.specs.RealToReciprocal.{phase, prePhase, anchorVector}
 use Rattle.phonon.specs.Interaction.{exchanged, orderCount, legQ}
+
+-- ---- the number that is given
+
+-- a number and its test
+pub record Test : Type 0 where
+  pub number : ℕ
+  pub good : Bool
+
+-- the lower of two numbers, of which 0 is none
+unfoldable pub lower : ℕ → ℕ → ℕ
+lower zero k = k
+lower (suc n) zero = suc n
+lower (suc n) (suc k) = cond (leb n k) (suc n) (suc k)
+
+-- the lowest number of the tests that fail, and 0 where none does
+unfoldable pub lowest : List Test → ℕ
+lowest [] = 0
+lowest (t ∷ ts) = cond (t .good) (lowest ts) (lower (t .number) (lowest ts))
 
 -- ---- 1, measure: P, S, F, G, vectors or list beyond its limits
 
@@ -25,64 +44,36 @@ unfoldable pub measuresOk : Measures → Bool
 measuresOk m =
     allTrue (atomsOk (m .atoms) ∷ supercellOk (m .supercell) ∷ firstOk (m .atoms) (m .first) ∷ gridOk (m .grid) ∷ vectorsOk (m .vectors) ∷ [])
 
-unfoldable pub totalsMeasuresOk : TotalsMeasures → Bool
-totalsMeasuresOk m = allTrue (atomsOk (m .atoms) ∷ firstOk (m .atoms) (m .first) ∷ gridOk (m .grid) ∷ [])
-
 -- ---- 2, length: a slice of the wrong length, or work buffer too short
 
-unfoldable pub tableLengths : Tables → Sizes → List Bool
-tableLengths t z =
-    eqb (length (t .grid .addresses)) (z .addresses)
-    ∷ eqb (length (t .crystal .vectors)) (z .vectors)
-    ∷ eqb (length (t .crystal .multiplicity)) (z .multiplicity)
-    ∷ eqb (length (t .crystal .forces .p2s)) (t .measures .atoms)
-    ∷ eqb (length (t .crystal .forces .s2p)) (t .measures .supercell)
-    ∷ eqb (length (t .crystal .masses)) (t .measures .atoms)
-    ∷ eqb (length (t .bands)) (t .measures .first)
-    ∷ eqb (length (t .phonons .frequencies)) (z .frequencies)
-    ∷ eqb (length (t .phonons .eigenvectors)) (z .eigenvectors)
-    ∷ eqb (length (t .crystal .forces .shortest)) (z .shortest)
-    ∷ eqb (length (t .crystal .forces .nonzero)) (z .nonzero)
-    ∷ eqb (length (t .crystal .forces .constants)) (z .constants)
+-- the tables' slices
+unfoldable pub tableLengths : Measures → Sizes → Crystal → List ℤ → List ℤ → Phonons → List Bool
+tableLengths m z c addresses bands p =
+    eqb (length addresses) (z .addresses)
+    ∷ eqb (length (c .vectors)) (z .vectors)
+    ∷ eqb (length (c .multiplicity)) (z .multiplicity)
+    ∷ eqb (length (c .forces .p2s)) (m .atoms)
+    ∷ eqb (length (c .forces .s2p)) (m .supercell)
+    ∷ eqb (length (c .masses)) (m .atoms)
+    ∷ eqb (length bands) (m .first)
+    ∷ eqb (length (p .frequencies)) (z .frequencies)
+    ∷ eqb (length (p .eigenvectors)) (z .eigenvectors)
+    ∷ eqb (length (c .forces .shortest)) (z .shortest)
+    ∷ eqb (length (c .forces .nonzero)) (z .nonzero)
+    ∷ eqb (length (c .forces .constants)) (z .constants)
     ∷ []
 
--- flags and strengths of so many slots, and the work buffer, by their lengths
+-- flags and strengths of n slots, and the work buffer, by their lengths
 unfoldable pub bufferLengths : ℕ → Sizes → ℕ → ℕ → ℕ → List Bool
 bufferLengths n z flags strengths work = eqb flags n ∷ eqb strengths n ∷ leb (z .work) work ∷ []
 
-abbrev pub sizes : Tables → Sizes
-sizes t = sizesOf (t .measures) (t .crystal .forces .form)
+-- first and second weights of n entries, and totals of F first bands, by their lengths
+unfoldable pub bathLengths : ℕ → ℕ → ℕ → ℕ → ℕ → List Bool
+bathLengths n F first second totals = eqb first n ∷ eqb second n ∷ eqb totals F ∷ []
 
-unfoldable pub tripletLengthsOk : TripletSet → Bool
-tripletLengthsOk s =
-    allTrue (tableLengths (s .tables) (sizes (s .tables)) ++ bufferLengths (sizes (s .tables) .slots) (sizes (s .tables)) (length (s .flags)) (length (s .strengths)) (length (s .work)))
-
-unfoldable pub listLengthsOk : ListSet → Bool
-listLengthsOk s =
-    allTrue
-    (eqb (length (s .triplets)) (3 * s .list)
-    ∷ (tableLengths (s .tables) (sizes (s .tables)) ++ bufferLengths (s .list * sizes (s .tables) .slots) (sizes (s .tables)) (length (s .flags)) (length (s .strengths)) (length (s .work))))
-
-unfoldable pub totalsLengthsOk : TotalsSet → Bool
-totalsLengthsOk s =
-    allTrue
-    (eqb (length (s .frequencies)) (s .measures .grid * (3 * s .measures .atoms))
-    ∷ eqb (length (s .flags)) (entriesOf (s .weights) (s .measures .first) (3 * s .measures .atoms))
-    ∷ eqb (length (s .strengths)) (s .measures .first * (3 * s .measures .atoms) * (3 * s .measures .atoms))
-    ∷ eqb (length (s .first)) (entriesOf (s .weights) (s .measures .first) (3 * s .measures .atoms))
-    ∷ eqb (length (s .second)) (entriesOf (s .weights) (s .measures .first) (3 * s .measures .atoms))
-    ∷ eqb (length (s .totals)) (s .measures .first)
-    ∷ [])
-
-unfoldable pub joinedLengthsOk : JoinedSet → Bool
-joinedLengthsOk s =
-    allTrue
-    (tableLengths (s .tables) (sizes (s .tables))
-    ++ (bufferLengths (sizes (s .tables) .slots) (sizes (s .tables)) (length (s .flags)) (length (s .strengths)) (length (s .work))
-    ++ (eqb (length (s .first)) (sizes (s .tables) .slots)
-    ∷ eqb (length (s .second)) (sizes (s .tables) .slots)
-    ∷ eqb (length (s .totals)) (s .tables .measures .first)
-    ∷ [])))
+-- what totals alone has besides: frequencies, flags of n entries, and strengths, by their lengths
+unfoldable pub aloneLengths : Measures → ℕ → ℕ → ℕ → ℕ → List Bool
+aloneLengths m n frequencies flags strengths = eqb frequencies (m .grid * bandsOf m) ∷ eqb flags n ∷ eqb strengths (slots m) ∷ []
 
 -- ---- 3, index: triplet not in 0 to G - 1, p2s or s2p not in 0 to S - 1, band not in 0 to B - 1, or a vector range outside the vectors
 
@@ -92,46 +83,43 @@ pointsOk G points = allWithin (pos 0) (pos (G - 1)) points
 unfoldable pub rangesOk : ℕ → ℕ → List ℤ → Bool
 rangesOk vectors entries multiplicity = everyBelow (λ n. vectorRange vectors (int multiplicity (2 * n)) (int multiplicity (2 * n + 1))) entries
 
-unfoldable pub tableIndicesOk : Tables → Bool
-tableIndicesOk t =
+unfoldable pub indicesOk : Measures → List ℤ → List ℤ → List ℤ → List ℤ → Bool
+indicesOk m multiplicity p2s s2p bands =
     allTrue
-    (allWithin (pos 0) (pos (t .measures .supercell - 1)) (t .crystal .forces .p2s)
-    ∷ allWithin (pos 0) (pos (t .measures .supercell - 1)) (t .crystal .forces .s2p)
-    ∷ allWithin (pos 0) (pos (bandsOf (t .measures) - 1)) (t .bands)
-    ∷ rangesOk (t .measures .vectors) (t .measures .supercell * t .measures .atoms) (t .crystal .multiplicity)
+    (allWithin (pos 0) (pos (m .supercell - 1)) p2s
+    ∷ allWithin (pos 0) (pos (m .supercell - 1)) s2p
+    ∷ allWithin (pos 0) (pos (bandsOf m - 1)) bands
+    ∷ rangesOk (m .vectors) (m .supercell * m .atoms) multiplicity
     ∷ [])
-
-unfoldable pub indicesOk : Tables → List ℤ → Bool
-indicesOk t points = pointsOk (t .measures .grid) points && tableIndicesOk t
 
 -- ---- 4, not finite: any f64 handed in for reading
 
-unfoldable pub tablesFinite : Tables → Bool
-tablesFinite t =
+unfoldable pub tablesFinite : Float → List Float → List Float → List Float → List Float → List Float → Bool
+tablesFinite cutoff vectors masses frequencies eigenvectors constants =
     allTrue
-    (finite (t .settings .cutoff)
-    ∷ allFinite (t .crystal .vectors)
-    ∷ allFinite (t .crystal .masses)
-    ∷ allFinite (t .phonons .frequencies)
-    ∷ allFinite (t .phonons .eigenvectors)
-    ∷ allFinite (t .crystal .forces .constants)
+    (finite cutoff
+    ∷ allFinite vectors
+    ∷ allFinite masses
+    ∷ allFinite frequencies
+    ∷ allFinite eigenvectors
+    ∷ allFinite constants
     ∷ [])
 
 -- the temperature, the first and the second weights
 unfoldable pub bathFinite : Bath → List Float → List Float → Bool
 bathFinite h first second = allTrue (finite (h .temperature) ∷ allFinite first ∷ allFinite second ∷ [])
 
-unfoldable pub totalsFinite : TotalsSet → Bool
-totalsFinite s = allTrue (finite (s .cutoff) ∷ allFinite (s .frequencies) ∷ allFinite (s .strengths) ∷ bathFinite (s .bath) (s .first) (s .second) ∷ [])
+unfoldable pub aloneFinite : Float → List Float → List Float → Bool
+aloneFinite cutoff frequencies strengths = allTrue (finite cutoff ∷ allFinite frequencies ∷ allFinite strengths ∷ [])
 
 -- ---- 5, mesh: address, mesh or q matrix beyond its limits
 
-unfoldable pub meshOk : Tables → Bool
-meshOk t =
+unfoldable pub meshOk : Grid → Bool
+meshOk g =
     allTrue
-    (allWithin lowestMesh highestMesh (t .grid .mesh)
-    ∷ allWithin lowestMatrix highestMatrix (t .grid .matrix)
-    ∷ allWithin lowestAddress highestAddress (t .grid .addresses)
+    (allWithin lowestMesh highestMesh (g .mesh)
+    ∷ allWithin lowestMatrix highestMatrix (g .matrix)
+    ∷ allWithin lowestAddress highestAddress (g .addresses)
     ∷ [])
 
 -- ---- 6, mass: zero or below
@@ -151,94 +139,127 @@ bathOk h = allTrue (weightOk (h .weight) ∷ not (signBit (h .temperature)) ∷ 
 
 -- ---- 9, phase: any phase the source computes for the set is beyond ±1,048,576 or not finite
 
--- of each vector of each entry of the multiplicities, at one q
-unfoldable pub legPhasesOk : Tables → List Float → Bool
-legPhasesOk t q =
-    everyBelow (λ n. everyBelow (λ i. inDomain (phase q (t .crystal .vectors) (index (int (t .crystal .multiplicity) (2 * n + 1)) + i)))
-    (index (int (t .crystal .multiplicity) (2 * n)))) (t .measures .supercell * t .measures .atoms)
+-- of each vector of the first n entries of the multiplicities, at one q
+unfoldable pub legPhasesOk : List Float → List ℤ → ℕ → List Float → Bool
+legPhasesOk vectors multiplicity n q =
+    everyBelow (λ k. everyBelow (λ i. inDomain (phase q vectors (index (int multiplicity (2 * k + 1)) + i))) (index (int multiplicity (2 * k)))) n
 
--- of each atom, with the three q in one order
-unfoldable pub prePhasesOk : Tables → Legs (List Float) → Bool
-prePhasesOk t q =
-    everyBelow (λ i. inDomain (prePhase (t .crystal .vectors) q (anchorVector (t .measures .atoms) (t .crystal .multiplicity) (t .crystal .forces .p2s) i))) (t .measures .atoms)
+-- of each of P atoms, with the three q in one order
+unfoldable pub prePhasesOk : ℕ → List Float → List ℤ → List ℤ → Legs (List Float) → Bool
+prePhasesOk P vectors multiplicity p2s q = everyBelow (λ i. inDomain (prePhase vectors q (anchorVector P multiplicity p2s i))) P
 
--- of the three legs, and of every order of the legs that is used
-unfoldable pub phasesOk : Triplet → Bool
-phasesOk t =
+-- of every order of the legs that is used
+unfoldable pub ordersOk : ℕ → Symmetry → List Float → List ℤ → List ℤ → Legs (List Float) → Bool
+ordersOk P symmetry vectors multiplicity p2s q = everyBelow (λ o. prePhasesOk P vectors multiplicity p2s (exchanged o q)) (orderCount symmetry)
+
+-- of P atoms, S supercell atoms and the three legs' q
+unfoldable pub phasesOk : ℕ → ℕ → Symmetry → List Float → List ℤ → List ℤ → Legs (List Float) → Bool
+phasesOk P S symmetry vectors multiplicity p2s q =
     allTrue
-    (legPhasesOk (t .tables) (legQ t .leg0)
-    ∷ legPhasesOk (t .tables) (legQ t .leg1)
-    ∷ legPhasesOk (t .tables) (legQ t .leg2)
-    ∷ everyBelow (λ o. prePhasesOk (t .tables) (exchanged o (legQ t))) (orderCount (t .tables .symmetry))
+    (legPhasesOk vectors multiplicity (S * P) (q .leg0)
+    ∷ legPhasesOk vectors multiplicity (S * P) (q .leg1)
+    ∷ legPhasesOk vectors multiplicity (S * P) (q .leg2)
+    ∷ ordersOk P symmetry vectors multiplicity p2s q
     ∷ [])
 
--- ---- the four doors: the tests of each, in the order of their numbers
+-- ---- the groups, each with its numbers
 
--- a number and its test
-pub record Test : Type 0 where
-  pub number : ℕ
-  pub good : Bool
+-- 1 to 7, of the tables
+abbrev pub tableTests : Measures → Float → Crystal → Grid → List ℤ → Phonons → List Test
+tableTests m cutoff c g bands p =
+    record { number = 1; good = measuresOk m }
+    ∷ record { number = 2; good = allTrue (tableLengths m (sizesOf m (c .forces .form)) c (g .addresses) bands p) }
+    ∷ record { number = 3; good = indicesOk m (c .multiplicity) (c .forces .p2s) (c .forces .s2p) bands }
+    ∷ record { number = 4; good = tablesFinite cutoff (c .vectors) (c .masses) (p .frequencies) (p .eigenvectors) (c .forces .constants) }
+    ∷ record { number = 5; good = meshOk g }
+    ∷ record { number = 6; good = massesOk (c .masses) }
+    ∷ record { number = 7; good = cutoffOk cutoff }
+    ∷ []
 
--- the number of the first test that fails, and 0 where none does
-unfoldable pub firstFailed : List Test → ℕ
-firstFailed [] = 0
-firstFailed (t ∷ ts) = cond (t .good) (firstFailed ts) (t .number)
+-- 1 and 2, of a list of n triplets
+abbrev pub countTests : ℕ → List ℤ → List Test
+countTests n triplets = record { number = 1; good = listOk n } ∷ record { number = 2; good = eqb (length triplets) (3 * n) } ∷ []
+
+-- 2, of what has n slots, and of the work buffer
+abbrev pub slotTests : ℕ → Sizes → ℕ → ℕ → ℕ → List Test
+slotTests n z flags strengths work = record { number = 2; good = allTrue (bufferLengths n z flags strengths work) } ∷ []
+
+-- 3, of the triplets' grid points
+abbrev pub pointTests : ℕ → List ℤ → List Test
+pointTests G points = record { number = 3; good = pointsOk G points } ∷ []
+
+-- 2, 4 and 8, of the bath, the weights and the totals
+abbrev pub bathTests : ℕ → ℕ → Bath → List Float → List Float → ℕ → List Test
+bathTests n F h first second totals =
+    record { number = 2; good = allTrue (bathLengths n F (length first) (length second) totals) }
+    ∷ record { number = 4; good = bathFinite h first second }
+    ∷ record { number = 8; good = bathOk h }
+    ∷ []
+
+-- 1, 2, 4 and 7, of what totals alone has in place of the tables
+abbrev pub aloneTests : Measures → ℕ → List Float → Float → List ℕ → List Float → List Test
+aloneTests m n frequencies cutoff flags strengths =
+    record { number = 1; good = measuresOk m }
+    ∷ record { number = 2; good = allTrue (aloneLengths m n (length frequencies) (length flags) (length strengths)) }
+    ∷ record { number = 4; good = aloneFinite cutoff frequencies strengths }
+    ∷ record { number = 7; good = cutoffOk cutoff }
+    ∷ []
+
+-- 9
+abbrev pub phaseTests : Bool → List Test
+phaseTests good = record { number = 9; good = good } ∷ []
+
+-- ---- the four doors
+
+abbrev pub sizes : Tables → Sizes
+sizes t = sizesOf (t .measures) (t .crystal .forces .form)
+
+-- the groups of a whole set
+
+abbrev pub testsOf : Tables → List Test
+testsOf t = tableTests (t .measures) (t .settings .cutoff) (t .crystal) (t .grid) (t .bands) (t .phonons)
+
+abbrev pub tripletPhases : Triplet → Bool
+tripletPhases t =
+    phasesOk (t .tables .measures .atoms) (t .tables .measures .supercell) (t .tables .symmetry) (t .tables .crystal .vectors) (t .tables .crystal .multiplicity) (t .tables .crystal .forces .p2s) (legQ t)
+
+abbrev pub entries : TotalsSet → ℕ
+entries s = entriesOf (s .weights) (s .measures .first) (3 * s .measures .atoms)
 
 abbrev pub tripletTests : TripletSet → List Test
 tripletTests s =
-    record { number = 1; good = measuresOk (s .tables .measures) }
-    ∷ record { number = 2; good = tripletLengthsOk s }
-    ∷ record { number = 3; good = indicesOk (s .tables) (s .triplet) }
-    ∷ record { number = 4; good = tablesFinite (s .tables) }
-    ∷ record { number = 5; good = meshOk (s .tables) }
-    ∷ record { number = 6; good = massesOk (s .tables .crystal .masses) }
-    ∷ record { number = 7; good = cutoffOk (s .tables .settings .cutoff) }
-    ∷ record { number = 9; good = phasesOk (ofTriplet s) }
-    ∷ []
-
-unfoldable pub tripletRefusal : TripletSet → ℕ
-tripletRefusal s = firstFailed (tripletTests s)
+    testsOf (s .tables)
+    ++ slotTests (sizes (s .tables) .slots) (sizes (s .tables)) (length (s .flags)) (length (s .strengths)) (length (s .work))
+    ++ pointTests (s .tables .measures .grid) (s .triplet)
+    ++ phaseTests (tripletPhases (ofTriplet s))
 
 abbrev pub listTests : ListSet → List Test
 listTests s =
-    record { number = 1; good = measuresOk (s .tables .measures) && listOk (s .list) }
-    ∷ record { number = 2; good = listLengthsOk s }
-    ∷ record { number = 3; good = indicesOk (s .tables) (s .triplets) }
-    ∷ record { number = 4; good = tablesFinite (s .tables) }
-    ∷ record { number = 5; good = meshOk (s .tables) }
-    ∷ record { number = 6; good = massesOk (s .tables .crystal .masses) }
-    ∷ record { number = 7; good = cutoffOk (s .tables .settings .cutoff) }
-    ∷ record { number = 9; good = everyBelow (λ t. phasesOk (ofList s t)) (s .list) }
-    ∷ []
-
-unfoldable pub listRefusal : ListSet → ℕ
-listRefusal s = firstFailed (listTests s)
+    countTests (s .list) (s .triplets)
+    ++ testsOf (s .tables)
+    ++ slotTests (s .list * sizes (s .tables) .slots) (sizes (s .tables)) (length (s .flags)) (length (s .strengths)) (length (s .work))
+    ++ pointTests (s .tables .measures .grid) (s .triplets)
+    ++ phaseTests (everyBelow (λ t. tripletPhases (ofList s t)) (s .list))
 
 abbrev pub totalsTests : TotalsSet → List Test
 totalsTests s =
-    record { number = 1; good = totalsMeasuresOk (s .measures) }
-    ∷ record { number = 2; good = totalsLengthsOk s }
-    ∷ record { number = 3; good = pointsOk (s .measures .grid) (s .triplet) }
-    ∷ record { number = 4; good = totalsFinite s }
-    ∷ record { number = 7; good = cutoffOk (s .cutoff) }
-    ∷ record { number = 8; good = bathOk (s .bath) }
-    ∷ []
-
-unfoldable pub totalsRefusal : TotalsSet → ℕ
-totalsRefusal s = firstFailed (totalsTests s)
+    aloneTests (measuresOf (s .measures)) (entries s) (s .frequencies) (s .cutoff) (s .flags) (s .strengths)
+    ++ pointTests (s .measures .grid) (s .triplet)
+    ++ bathTests (entries s) (s .measures .first) (s .bath) (s .first) (s .second) (length (s .totals))
 
 abbrev pub joinedTests : JoinedSet → List Test
 joinedTests s =
-    record { number = 1; good = measuresOk (s .tables .measures) }
-    ∷ record { number = 2; good = joinedLengthsOk s }
-    ∷ record { number = 3; good = indicesOk (s .tables) (s .triplet) }
-    ∷ record { number = 4; good = tablesFinite (s .tables) && bathFinite (s .bath) (s .first) (s .second) }
-    ∷ record { number = 5; good = meshOk (s .tables) }
-    ∷ record { number = 6; good = massesOk (s .tables .crystal .masses) }
-    ∷ record { number = 7; good = cutoffOk (s .tables .settings .cutoff) }
-    ∷ record { number = 8; good = bathOk (s .bath) }
-    ∷ record { number = 9; good = phasesOk (ofJoined s) }
-    ∷ []
+    tripletTests (tripletOf s)
+    ++ bathTests (sizes (s .tables) .slots) (s .tables .measures .first) (s .bath) (s .first) (s .second) (length (s .totals))
+
+unfoldable pub tripletRefusal : TripletSet → ℕ
+tripletRefusal s = lowest (tripletTests s)
+
+unfoldable pub listRefusal : ListSet → ℕ
+listRefusal s = lowest (listTests s)
+
+unfoldable pub totalsRefusal : TotalsSet → ℕ
+totalsRefusal s = lowest (totalsTests s)
 
 unfoldable pub joinedRefusal : JoinedSet → ℕ
-joinedRefusal s = firstFailed (joinedTests s)
+joinedRefusal s = lowest (joinedTests s)

@@ -133,10 +133,18 @@ pub record JoinedSet : Type 0 where
   pub totals : List Float
   pub work : List Float
 
+-- the measures of totals alone, as measures: it is handed no supercell and no vectors, and both stand at 1
+abbrev pub measuresOf : TotalsMeasures → Measures
+measuresOf m = record { atoms = m .atoms; supercell = 1; first = m .first; grid = m .grid; vectors = 1 }
+
 -- ---- the triplet that each set has to be worked
 
 abbrev pub ofTriplet : TripletSet → Triplet
 ofTriplet s = record { tables = s .tables; points = s .triplet; flags = s .flags }
+
+-- the one triplet of a joined set
+abbrev pub tripletOf : JoinedSet → TripletSet
+tripletOf s = record { tables = s .tables; triplet = s .triplet; flags = s .flags; strengths = s .strengths; work = s .work }
 
 abbrev pub ofJoined : JoinedSet → Triplet
 ofJoined s = record { tables = s .tables; points = s .triplet; flags = s .flags }

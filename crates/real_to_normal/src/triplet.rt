@@ -17,7 +17,7 @@ ghost use Prim.Native.Nat.{_+_, _-_, _*_, _≤_};
 ghost use lib.IntN.{pos};
 ghost use lib.ListN.{length};
 ghost use Rattle.phonon.specs.Number.{at, table};
-ghost use Rattle.phonon.specs.Sets.{forcesOf};
+ghost use Rattle.phonon.specs.Sets.{TripletSet, forcesOf, ofTriplet};
 ghost use Rattle.phonon.specs.Tests.{allWithin};
 ghost use Rattle.phonon.specs.Interaction as Interaction;
 ghost use Rattle.phonon.specs.ReciprocalToNormal.{inverseRoots};
@@ -179,7 +179,8 @@ pub fn work_triplet(
     strengths: &mut [f64],
     work: &mut [f64],
 )
-    requires { ⌜ tripletRefusal (record {
+    ghost { TripletSet }
+    requires { λ s. ⌜ s ≡ record {
       tables = record {
         measures = m;
         settings = settings;
@@ -205,35 +206,9 @@ pub fn work_triplet(
       flags = now flags;
       strengths = now strengths;
       work = now work;
-    })
-        ≡ 0 ⌝ }
-    ensures { λ _. ⌜ (now (strengths .exit) ≡ Interaction.strengths
-        (record {
-          tables = record {
-            measures = m;
-            settings = settings;
-            symmetry = symmetry;
-            crystal = record {
-              vectors = now (vectors .entry);
-              multiplicity = now (multiplicity .entry);
-              masses = now (masses .entry);
-              forces = record {
-                form = form;
-                p2s = now (p2s .entry);
-                s2p = now (s2p .entry);
-                shortest = now (shortest .entry);
-                nonzero = now (nonzero .entry);
-                constants = now (constants .entry);
-              };
-            };
-            grid = record { mesh = mesh; matrix = matrix; addresses = now (addresses .entry) };
-            bands = now (bands .entry);
-            phonons = record { frequencies = now (frequencies .entry); eigenvectors = now (eigenvectors .entry) };
-          };
-          points = triplet;
-          flags = now (flags .entry);
-        }) (now (strengths .entry)))
-        × (now (work .exit) ≡ cleared m (now (work .entry))) ⌝ }
+    } ⌝ }
+    requires { λ s. ⌜ tripletRefusal s ≡ 0 ⌝ }
+    ensures { λ s _. ⌜ (now (strengths .exit) ≡ Interaction.strengths (ofTriplet s) (s .strengths)) × (now (work .exit) ≡ cleared m (s .work)) ⌝ }
 {
     let np = m.atoms;
     let ns = m.supercell;

@@ -14,10 +14,11 @@ use Rattle.phonon.specs.Sets.{part, Grid, Legs}
 use Rattle.phonon.specs.RealToReciprocal.{qAt, phase, prePhase, anchorVector}
 use Rattle.phonon.specs.declared.Symmetry.{Symmetry}
 use Rattle.phonon.specs.declared.Symmetry.the-variants.{Off, Symmetrized}
-use Rattle.phonon.specs.Interaction.{orders, leg, exchanged, orderCount}
+use Rattle.phonon.specs.Interaction.{orders, leg, exchanged, orderCount, legsAt}
 use Rattle.planes.proofs.LegOrders.{orders-lt}
 use Rattle.phonon.proofs.Laws.{part-at, part-size}
-use Rattle.refusals.specs.Phases.{legPhasesFor, prePhasesFor, ordersFor, phasesFor, legsAt, Located}
+use Rattle.phonon.specs.Refusal.{legPhasesOk, prePhasesOk, ordersOk, phasesOk}
+use Rattle.refusals.specs.Phases.{Located}
 
 module _ (q vectors : List Float) where
   -- vector i of those from `start` on
@@ -32,8 +33,8 @@ module _ (q vectors : List Float) where
       → everyBelow (vectorFine start) count ≡ entryFine multiplicity k
   entry-is multiplicity k e f = rw (e, f)
 
-  pub leg-is : (multiplicity : List ℤ) (n : ℕ) → everyBelow (entryFine multiplicity) n ≡ legPhasesFor vectors multiplicity n q
-  unfolding legPhasesFor
+  pub leg-is : (multiplicity : List ℤ) (n : ℕ) → everyBelow (entryFine multiplicity) n ≡ legPhasesOk vectors multiplicity n q
+  unfolding legPhasesOk
   leg-is multiplicity n = refl
 
 -- atom i, with the three q in one order
@@ -41,17 +42,17 @@ abbrev pub atomFine : ℕ → List Float → List ℤ → List ℤ → Legs (Lis
 atomFine P vectors multiplicity p2s q i = inDomain (prePhase vectors q (anchorVector P multiplicity p2s i))
 
 pub atoms-are : (P : ℕ) (vectors : List Float) (multiplicity p2s : List ℤ) (q : Legs (List Float))
-    → everyBelow (atomFine P vectors multiplicity p2s q) P ≡ prePhasesFor P vectors multiplicity p2s q
-unfolding prePhasesFor
+    → everyBelow (atomFine P vectors multiplicity p2s q) P ≡ prePhasesOk P vectors multiplicity p2s q
+unfolding prePhasesOk
 atoms-are P vectors multiplicity p2s q = refl
 
 -- order o of the legs
 abbrev pub orderFine : ℕ → List Float → List ℤ → List ℤ → Legs (List Float) → ℕ → Bool
-orderFine P vectors multiplicity p2s q o = prePhasesFor P vectors multiplicity p2s (exchanged o q)
+orderFine P vectors multiplicity p2s q o = prePhasesOk P vectors multiplicity p2s (exchanged o q)
 
 pub orders-are : (P : ℕ) (symmetry : Symmetry) (vectors : List Float) (multiplicity p2s : List ℤ) (q : Legs (List Float))
-    → everyBelow (orderFine P vectors multiplicity p2s q) (orderCount symmetry) ≡ ordersFor P symmetry vectors multiplicity p2s q
-unfolding ordersFor
+    → everyBelow (orderFine P vectors multiplicity p2s q) (orderCount symmetry) ≡ ordersOk P symmetry vectors multiplicity p2s q
+unfolding ordersOk
 orders-are P symmetry vectors multiplicity p2s q = refl
 
 pub count-most : (symmetry : Symmetry) → orderCount symmetry ≤ 6
@@ -98,8 +99,8 @@ part-located {m} {triplets} {addresses} t h l =
 pub phases-told : (P S : ℕ) (symmetry : Symmetry) (vectors : List Float) (multiplicity p2s : List ℤ) (w : Grid) (points : List ℤ) {a b d o : Bool} {q0 q1 q2 : List Float} {g0 g1 g2 : ℕ}
     → g0 ≡ index (int points 0) → g1 ≡ index (int points 1) → g2 ≡ index (int points 2)
     → q0 ≡ qAt w g0 → q1 ≡ qAt w g1 → q2 ≡ qAt w g2
-    → a ≡ legPhasesFor vectors multiplicity (S * P) q0 → b ≡ legPhasesFor vectors multiplicity (S * P) q1 → d ≡ legPhasesFor vectors multiplicity (S * P) q2
-    → o ≡ ordersFor P symmetry vectors multiplicity p2s (record { leg0 = q0; leg1 = q1; leg2 = q2 })
-    → ((a && b) && d) && o ≡ phasesFor P S symmetry vectors multiplicity p2s (legsAt w points)
-unfolding phasesFor allTrue allTrueAfter
+    → a ≡ legPhasesOk vectors multiplicity (S * P) q0 → b ≡ legPhasesOk vectors multiplicity (S * P) q1 → d ≡ legPhasesOk vectors multiplicity (S * P) q2
+    → o ≡ ordersOk P symmetry vectors multiplicity p2s (record { leg0 = q0; leg1 = q1; leg2 = q2 })
+    → ((a && b) && d) && o ≡ phasesOk P S symmetry vectors multiplicity p2s (legsAt w points)
+unfolding phasesOk allTrue allTrueAfter
 phases-told P S symmetry vectors multiplicity p2s w points i0 i1 i2 e0 e1 e2 l0 l1 l2 r = rw (l0, l1, l2, r, e0, e1, e2, i0, i1, i2) refl

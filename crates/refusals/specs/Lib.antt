@@ -1,4 +1,2 @@
--- The tests' answers, and phonon's tests over just the slices that each reads.
-pub mod Answers
-pub mod Slices
+-- What the contracts of the tests say beside phonon's definitions.
 pub mod Phases

@@ -1,18 +1,12 @@
-// Every test of a set for the joined door, in document 01's order.
-use crate::Checked;
-use crate::Measured;
-use crate::lengths::bath_lengths_ok;
-use crate::lengths::buffer_lengths_ok;
-use crate::lengths::table_lengths_ok;
-use crate::measures::check_measures;
-use crate::phases::phases_ok;
-use crate::tables::mesh_ok;
-use crate::tables::table_indices_ok;
-use crate::tables::tables_finite;
-use checks::values::bath_finite;
-use checks::values::bath_ok;
-use checks::values::cutoff_ok;
-use checks::values::points_ok;
+// Every test of a set for the joined door: those of its triplet, and those of the bath, the weights and the totals.
+use crate::triplet::check_triplet;
+use checks::groups::bath_number;
+use checks::measures::check_measures;
+use checks::verdict::Checked;
+use checks::verdict::Measured;
+use checks::verdict::checked_of;
+use checks::verdict::lower_of;
+use checks::verdict::number_in;
 use phonon::Bath;
 use phonon::Form;
 use phonon::Measures;
@@ -22,9 +16,8 @@ ghost use mathlib.Core.Path.{_≡_};
 ghost use mathlib.Core.List.{List};
 ghost use lib.Ieee.{Float};
 ghost use lib.ListN.{length};
-ghost use Rattle.phonon.specs.Limits.{sizesOf};
 ghost use Rattle.phonon.specs.Refusal.{joinedRefusal};
-ghost use Rattle.refusals.specs.Answers.{checkedOf};
+ghost use Rattle.checks.specs.Answers.{checkedOf};
 
 pub fn check_joined(
     m: Measures,
@@ -86,15 +79,19 @@ pub fn check_joined(
           strengths = v;
           totals = u;
           work = w;
-        })) (sizesOf m form)) ⌝ }
+        })) m) ⌝ }
 {
     let Measured::Within(z) = check_measures(m, form) else {
         return Checked::Bad(1);
     };
-    let cutoff = settings.cutoff;
-    let sized = table_lengths_ok(
+    let one = check_triplet(
         m,
-        z,
+        settings,
+        form,
+        symmetry,
+        mesh,
+        matrix,
+        triplet,
         addresses,
         vectors,
         multiplicity,
@@ -107,53 +104,10 @@ pub fn check_joined(
         shortest,
         nonzero,
         constants,
-    )
-        & buffer_lengths_ok(z.slots, z, flags, strengths, work)
-        & bath_lengths_ok(m, z, first, second, totals);
-    if !sized {
-        return Checked::Bad(2);
-    }
-    let indexed = points_ok(m.grid, &triplet) & table_indices_ok(m, multiplicity, p2s, s2p, bands);
-    if !indexed {
-        return Checked::Bad(3);
-    }
-    let finite = tables_finite(
-        cutoff,
-        vectors,
-        masses,
-        frequencies,
-        eigenvectors,
-        constants,
-    )
-        & bath_finite(bath, first, second);
-    if !finite {
-        return Checked::Bad(4);
-    }
-    if !mesh_ok(mesh, matrix, addresses) {
-        return Checked::Bad(5);
-    }
-    if !checks::all_positive(masses) {
-        return Checked::Bad(6);
-    }
-    if !cutoff_ok(cutoff) {
-        return Checked::Bad(7);
-    }
-    if !bath_ok(bath) {
-        return Checked::Bad(8);
-    }
-    if !phases_ok(
-        m.atoms,
-        m.supercell,
-        symmetry,
-        mesh,
-        matrix,
-        &triplet,
-        addresses,
-        vectors,
-        multiplicity,
-        p2s,
-    ) {
-        return Checked::Bad(9);
-    }
-    Checked::Good(z)
+        flags,
+        strengths,
+        work,
+    );
+    let bath = bath_number(z.slots, m.first, bath, first, second, totals);
+    checked_of(lower_of(number_in(one), bath), m)
 }

@@ -1,16 +1,14 @@
-// Every test of a set for the list door, in document 01's order: the list is tested whole.
-use crate::Checked;
-use crate::Measured;
-use crate::lengths::buffer_lengths_ok;
-use crate::lengths::table_lengths_ok;
-use crate::measures::check_measures;
-use crate::measures::list_ok;
+// Every test of a set for the list door: the list is tested whole.
 use crate::phases::list_phases_ok;
-use crate::tables::mesh_ok;
-use crate::tables::table_indices_ok;
-use crate::tables::tables_finite;
-use checks::values::cutoff_ok;
-use checks::values::points_ok;
+use crate::tables::tables_number;
+use checks::groups::count_number;
+use checks::groups::points_number;
+use checks::groups::slots_number;
+use checks::measures::check_measures;
+use checks::measures::list_ok;
+use checks::verdict::Checked;
+use checks::verdict::Measured;
+use checks::verdict::lower_of;
 use phonon::Form;
 use phonon::Measures;
 use phonon::Settings;
@@ -19,9 +17,8 @@ ghost use mathlib.Core.Path.{_≡_};
 ghost use mathlib.Core.List.{List};
 ghost use lib.Ieee.{Float};
 ghost use lib.ListN.{length};
-ghost use Rattle.phonon.specs.Limits.{sizesOf};
 ghost use Rattle.phonon.specs.Refusal.{listRefusal};
-ghost use Rattle.refusals.specs.Answers.{checkedOf};
+ghost use Rattle.checks.specs.Answers.{checkedOf};
 
 pub fn check_list(
     m: Measures,
@@ -77,7 +74,7 @@ pub fn check_list(
           flags = now (flags .entry);
           strengths = v;
           work = w;
-        })) (sizesOf m form)) ⌝ }
+        })) m) ⌝ }
 {
     let Measured::Within(z) = check_measures(m, form) else {
         return Checked::Bad(1);
@@ -85,50 +82,31 @@ pub fn check_list(
     if !list_ok(list) {
         return Checked::Bad(1);
     }
-    let cutoff = settings.cutoff;
-    let sized = (triplets.len() == 3 * list)
-        & table_lengths_ok(
-            m,
-            z,
-            addresses,
-            vectors,
-            multiplicity,
-            p2s,
-            s2p,
-            masses,
-            bands,
-            frequencies,
-            eigenvectors,
-            shortest,
-            nonzero,
-            constants,
-        )
-        & buffer_lengths_ok(list * z.slots, z, flags, strengths, work);
-    if !sized {
-        return Checked::Bad(2);
-    }
-    let indexed = points_ok(m.grid, triplets) & table_indices_ok(m, multiplicity, p2s, s2p, bands);
-    if !indexed {
-        return Checked::Bad(3);
-    }
-    if !tables_finite(
-        cutoff,
+    let count = count_number(list, triplets);
+    let tables = tables_number(
+        m,
+        form,
+        settings.cutoff,
+        mesh,
+        matrix,
+        addresses,
         vectors,
+        multiplicity,
+        p2s,
+        s2p,
         masses,
+        bands,
         frequencies,
         eigenvectors,
+        shortest,
+        nonzero,
         constants,
-    ) {
-        return Checked::Bad(4);
-    }
-    if !mesh_ok(mesh, matrix, addresses) {
-        return Checked::Bad(5);
-    }
-    if !checks::all_positive(masses) {
-        return Checked::Bad(6);
-    }
-    if !cutoff_ok(cutoff) {
-        return Checked::Bad(7);
+    );
+    let slots = slots_number(list * z.slots, z, flags, strengths, work);
+    let points = points_number(m.grid, triplets);
+    let n = lower_of(count, lower_of(tables, lower_of(slots, points)));
+    if n != 0 {
+        return Checked::Bad(n);
     }
     if !list_phases_ok(
         m.atoms,
@@ -145,5 +123,5 @@ pub fn check_list(
     ) {
         return Checked::Bad(9);
     }
-    Checked::Good(z)
+    Checked::Good(m)
 }

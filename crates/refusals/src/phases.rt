@@ -10,9 +10,10 @@ ghost use mathlib.Core.Path.{_≡_};
 ghost use Prim.Native.Nat.{_*_};
 ghost use Rattle.phonon.specs.Tests.{everyBelow};
 ghost use Rattle.phonon.specs.Trig.{inDomain};
-ghost use Rattle.phonon.specs.Interaction.{orderCount};
+ghost use Rattle.phonon.specs.Interaction.{orderCount, legsAt};
+ghost use Rattle.phonon.specs.Refusal.{legPhasesOk, prePhasesOk, ordersOk, phasesOk};
 ghost use Rattle.real_to_reciprocal.specs.Shape.{Anchored, Ranged};
-ghost use Rattle.refusals.specs.Phases.{legPhasesFor, prePhasesFor, ordersFor, phasesFor, legsAt, tripletFine, Located};
+ghost use Rattle.refusals.specs.Phases.{tripletFine, Located};
 
 fn in_domain(x: f64) -> bool
     ensures { λ r. ⌜ r ≡ inDomain x ⌝ }
@@ -23,7 +24,7 @@ fn in_domain(x: f64) -> bool
 // Each vector of each entry of the multiplicities, at one q.
 fn leg_phases_ok(q: &[f64; 3], vectors: &[f64], multiplicity: &[i64], entries: usize) -> bool
     requires { ⌜ Ranged (now vectors) (now multiplicity) entries ⌝ }
-    ensures { λ r. ⌜ r ≡ legPhasesFor (now (vectors .entry)) (now (multiplicity .entry)) entries (now (q .entry)) ⌝ }
+    ensures { λ r. ⌜ r ≡ legPhasesOk (now (vectors .entry)) (now (multiplicity .entry)) entries (now (q .entry)) ⌝ }
 {
     let mut good = true;
     'entries: for n in 0..entries {
@@ -51,7 +52,7 @@ fn pre_phases_ok(
     atoms: usize,
 ) -> bool
     requires { ⌜ Anchored (now vectors) (now multiplicity) (now p2s) atoms ⌝ }
-    ensures { λ r. ⌜ r ≡ prePhasesFor atoms (now (vectors .entry)) (now (multiplicity .entry)) (now (p2s .entry)) (record {
+    ensures { λ r. ⌜ r ≡ prePhasesOk atoms (now (vectors .entry)) (now (multiplicity .entry)) (now (p2s .entry)) (record {
       leg0 = now (q0 .entry);
       leg1 = now (q1 .entry);
       leg2 = now (q2 .entry);
@@ -88,7 +89,7 @@ fn orders_ok(
     atoms: usize,
 ) -> bool
     requires { ⌜ Anchored (now vectors) (now multiplicity) (now p2s) atoms ⌝ }
-    ensures { λ r. ⌜ r ≡ ordersFor atoms symmetry (now (vectors .entry)) (now (multiplicity .entry)) (now (p2s .entry))
+    ensures { λ r. ⌜ r ≡ ordersOk atoms symmetry (now (vectors .entry)) (now (multiplicity .entry)) (now (p2s .entry))
         (record { leg0 = q0; leg1 = q1; leg2 = q2 }) ⌝ }
 {
     let q = [q0, q1, q2];
@@ -121,7 +122,7 @@ pub fn phases_ok(
     requires { ⌜ Located 3 (now points) (now addresses)
         × Ranged (now vectors) (now multiplicity) (supercell * atoms)
         × Anchored (now vectors) (now multiplicity) (now p2s) atoms ⌝ }
-    ensures { λ r. ⌜ r ≡ phasesFor atoms supercell symmetry (now (vectors .entry)) (now (multiplicity .entry)) (now (p2s .entry))
+    ensures { λ r. ⌜ r ≡ phasesOk atoms supercell symmetry (now (vectors .entry)) (now (multiplicity .entry)) (now (p2s .entry))
         (legsAt (record { mesh = mesh; matrix = matrix; addresses = now (addresses .entry) }) (now (points .entry))) ⌝ }
 {
     let q0 = compute_q_vec(mesh, matrix, addresses, index_at(points, 0));

@@ -1,16 +1,13 @@
-// Every test of a set for the one-triplet door, in document 01's order. A stage begins only from the good answer
-// of the stage before. The lent buffers are told by their lengths.
-use crate::Checked;
-use crate::Measured;
-use crate::lengths::buffer_lengths_ok;
-use crate::lengths::table_lengths_ok;
-use crate::measures::check_measures;
+// Every test of a set for the one-triplet door. The phases are worked out only from tables and points that are
+// good. The lent buffers are told by their lengths.
 use crate::phases::phases_ok;
-use crate::tables::mesh_ok;
-use crate::tables::table_indices_ok;
-use crate::tables::tables_finite;
-use checks::values::cutoff_ok;
-use checks::values::points_ok;
+use crate::tables::tables_number;
+use checks::groups::points_number;
+use checks::groups::slots_number;
+use checks::measures::check_measures;
+use checks::verdict::Checked;
+use checks::verdict::Measured;
+use checks::verdict::lower_of;
 use phonon::Form;
 use phonon::Measures;
 use phonon::Settings;
@@ -19,9 +16,8 @@ ghost use mathlib.Core.Path.{_≡_};
 ghost use mathlib.Core.List.{List};
 ghost use lib.Ieee.{Float};
 ghost use lib.ListN.{length};
-ghost use Rattle.phonon.specs.Limits.{sizesOf};
 ghost use Rattle.phonon.specs.Refusal.{tripletRefusal};
-ghost use Rattle.refusals.specs.Answers.{checkedOf};
+ghost use Rattle.checks.specs.Answers.{checkedOf};
 
 pub fn check_triplet(
     m: Measures,
@@ -75,15 +71,17 @@ pub fn check_triplet(
           flags = now (flags .entry);
           strengths = v;
           work = w;
-        })) (sizesOf m form)) ⌝ }
+        })) m) ⌝ }
 {
     let Measured::Within(z) = check_measures(m, form) else {
         return Checked::Bad(1);
     };
-    let cutoff = settings.cutoff;
-    let sized = table_lengths_ok(
+    let tables = tables_number(
         m,
-        z,
+        form,
+        settings.cutoff,
+        mesh,
+        matrix,
         addresses,
         vectors,
         multiplicity,
@@ -96,33 +94,12 @@ pub fn check_triplet(
         shortest,
         nonzero,
         constants,
-    )
-        & buffer_lengths_ok(z.slots, z, flags, strengths, work);
-    if !sized {
-        return Checked::Bad(2);
-    }
-    let indexed = points_ok(m.grid, &triplet) & table_indices_ok(m, multiplicity, p2s, s2p, bands);
-    if !indexed {
-        return Checked::Bad(3);
-    }
-    if !tables_finite(
-        cutoff,
-        vectors,
-        masses,
-        frequencies,
-        eigenvectors,
-        constants,
-    ) {
-        return Checked::Bad(4);
-    }
-    if !mesh_ok(mesh, matrix, addresses) {
-        return Checked::Bad(5);
-    }
-    if !checks::all_positive(masses) {
-        return Checked::Bad(6);
-    }
-    if !cutoff_ok(cutoff) {
-        return Checked::Bad(7);
+    );
+    let slots = slots_number(z.slots, z, flags, strengths, work);
+    let points = points_number(m.grid, &triplet);
+    let n = lower_of(tables, lower_of(slots, points));
+    if n != 0 {
+        return Checked::Bad(n);
     }
     if !phases_ok(
         m.atoms,
@@ -138,5 +115,5 @@ pub fn check_triplet(
     ) {
         return Checked::Bad(9);
     }
-    Checked::Good(z)
+    Checked::Good(m)
 }

@@ -1,14 +1,14 @@
 -- A set that fails a test is answered with its number and left as it is; one that passes meets what the sum requires.
-use Prim.Native.Nat.{_*_}
 use mathlib.Core.Path.{_≡_, sym, _∙_}
 use native.Mathlib.Omega.{arith}
 use borrow.Author.Needs.{needs}
 use lib.ListN.{length}
 use mir.ValLaws.{toZ-ofZ}
 use mir.Syntax.{w64}
-use Rattle.phonon.specs.Sets.{TotalsSet}
+use Rattle.phonon.specs.Sets.{TotalsSet, measuresOf}
 use Rattle.phonon.specs.Refusal.{totalsRefusal}
-use Rattle.imag_self_energy.proofs.CheckLaws.{refused, good-bands, sized, reached, accepted}
+use Rattle.checks.proofs.AnswerLaws.{passes}
+use Rattle.imag_self_energy.proofs.CheckLaws.{refused, few, sized, reached, accepted}
 use Rattle.imag_self_energy.proofs.imag_self_energy_at_triplet.Statement.{statement}
 use Rattle.imag_self_energy.proofs.imag_self_energy_at_triplet.Tie as tie
 
@@ -33,10 +33,8 @@ handed s =
 abbrev entry : tie.After-known-told → tie.Start
 entry c = c .before .before .before .before .before .before .before .before .before .before .before
 
-good :
-    (c : tie.After-known-told)
-    → (totalsRefusal (handed (entry c)) ≡ 0) × (c .before .checked .given .0 .0 ≡ 3 * entry c .args .m .atoms)
-good c = good-bands (handed (entry c)) _ (sym (c .before .checked .given .1) ∙ c .before .before .before .check .ensures)
+good : (c : tie.After-known-told) → (totalsRefusal (handed (entry c)) ≡ 0) × (c .before .checked .given .0 .0 ≡ measuresOf (entry c .args .m))
+good c = passes _ _ _ (sym (c .before .checked .given .1) ∙ c .before .before .before .check .ensures)
 
 check-requires : tie.Need-check-requires
 check-requires c κs = search needs
@@ -56,9 +54,12 @@ same-length c = search needs
 returns : tie.Need-returns
 returns c = refused (handed (c .before .before .before .before .before .before .before .before .before .before .before)) _ _ _ (c .before .before .before .check .ensures) (c .before .enum-told .given .1) (c .answer-of .ensures)
 
+mul-write-totals : tie.Need-mul-write-totals
+mul-write-totals c = let g = good (c .before) in rw (g .1) (omega (arith, few (handed (entry (c .before))) (g .0)))
+
 write-totals-requires : tie.Need-write-totals-requires
 write-totals-requires c κs =
-    let k = c .before .before in
+    let k = c .before .before .before in
     let s = handed (entry k) in
     let g = good k in
     let three : length (s .triplet) ≡ 3 = entry k .good .1 .1 .0 .1 .0 .1 in
@@ -69,7 +70,7 @@ same-length-2 c = search needs
 
 returns-2 : tie.Need-returns-2
 returns-2 c =
-    let k = c .before .before .before .before .before in
+    let k = c .before .before .before .before .before .before in
     let g = good k in
     let weight = toZ-ofZ w64 (entry k .args .bath .weight) (record { sfits = c .before .before .before .struct-told .given .0 .1 }) in
     accepted (handed (entry k)) (g .0) _ (rw (g .1, weight) at (c .before .before .write-totals .ensures))
@@ -84,6 +85,7 @@ imag-self-energy-at-triplet-spec =
     answer-of-requires
     same-length
     returns
+    mul-write-totals
     write-totals-requires
     same-length-2
     returns-2)

@@ -1,20 +1,21 @@
 -- A set that fails a test is answered with its number and left as it is; one that passes is handed to the worker.
-use mathlib.Core.Path.{_≡_, refl, sym, _∙_}
+use mathlib.Core.Path.{_≡_, refl, sym, ap, _∙_}
 use borrow.Author.Needs.{needs}
+use Rattle.phonon.specs.declared.Measures.{Measures}
 use Rattle.phonon.specs.Sets.{TripletSet}
-use Rattle.phonon.specs.Limits.{sizesOf}
 use Rattle.phonon.specs.Refusal.{tripletRefusal}
-use Rattle.refusals.proofs.AnswerLaws.{passes}
+use Rattle.phonon.specs.Doors.{tripletOutcome}
+use Rattle.checks.proofs.AnswerLaws.{passes}
 use Rattle.interaction.proofs.DoorLaws.{refused, accepted}
 use Rattle.interaction.proofs.get_interaction_at_triplet.Statement.{statement}
 use Rattle.interaction.proofs.get_interaction_at_triplet.Tie as tie
 
--- the set that the contract speaks of
-abbrev handed : tie.Start → TripletSet
-handed s =
+-- the set that the contract speaks of, with measures m
+abbrev handed : tie.Start → Measures → TripletSet
+handed s m =
     record {
       tables = record {
-        measures = s .args .m;
+        measures = m;
         settings = s .args .settings;
         symmetry = s .args .symmetry;
         crystal = record {
@@ -36,11 +37,11 @@ handed s =
 check-triplet-requires : tie.Need-check-triplet-requires
 check-triplet-requires c κs = search needs
 
+enum-known-checked : tie.Need-enum-known-checked
+enum-known-checked c = search needs
+
 enum-told : tie.Need-enum-told
 enum-told c = search needs
-
-enum-told-2 : tie.Need-enum-told-2
-enum-told-2 c = search needs
 
 answer-of-requires : tie.Need-answer-of-requires
 answer-of-requires c κs = search needs
@@ -48,13 +49,17 @@ answer-of-requires c κs = search needs
 returns : tie.Need-returns
 returns c =
     let s = c .before .before .before .before .before .before .before .before .before .before .before .before .before .before in
-    refused (handed s) (sizesOf (s .args .m) (s .args .form)) _ _ _ (c .before .before .before .check-triplet .ensures (s .args .strengths .now) (s .args .work .now) refl refl) (c .before .enum-told2 .given .1) (c .answer-of .ensures)
+    refused (handed s (s .args .m)) _ _ _ _ (c .before .before .before .check-triplet .ensures (s .args .strengths .now) (s .args .work .now) refl refl) (c .before .enum-told .given .1) (c .answer-of .ensures)
 
--- the tests have passed
-passed : (c : tie.After-enum-told) → tripletRefusal (handed (c .before .before .before .before .before .before .before .before .before .before .before .before .before)) ≡ 0
-passed c =
-    let s = c .before .before .before .before .before .before .before .before .before .before .before .before .before in
-    passes _ (sizesOf (s .args .m) (s .args .form)) _ (sym (c .enum-told .given .1) ∙ c .before .before .check-triplet .ensures (s .args .strengths .now) (s .args .work .now) refl refl)
+-- the tests have passed, and told the measures
+abbrev start : tie.After-known-told → tie.Start
+start c = c .before .before .before .before .before .before .before .before .before .before .before .before .before .before
+
+told : (c : tie.After-known-told) → (tripletRefusal (handed (start c) (start c .args .m)) ≡ 0) × (c .before .checked .given .0 .0 ≡ start c .args .m)
+told c = passes _ _ _ (sym (c .before .checked .given .1) ∙ c .before .before .before .check-triplet .ensures (start c .args .strengths .now) (start c .args .work .now) refl refl)
+
+passed : (c : tie.After-known-told) → tripletRefusal (handed (start c) (c .before .checked .given .0 .0)) ≡ 0
+passed c = ap (λ m. tripletRefusal (handed (start c) m)) (told c .1) ∙ told c .0
 
 work-triplet-requires : tie.Need-work-triplet-requires
 work-triplet-requires c κs = passed (c .before .before)
@@ -69,15 +74,15 @@ returns-2 : tie.Need-returns-2
 returns-2 c =
     let k = c .before .before .before .before .before .before .before in
     let r = c .before .before .before .before .work-triplet .ensures in
-    accepted (handed (k .before .before .before .before .before .before .before .before .before .before .before .before .before)) (passed k) (r .0) (r .1)
+    accepted _ (passed k) (r .0) (r .1) ∙ ap (λ m. tripletOutcome (handed (start k) m)) (told k .1)
 
 pub get-interaction-at-triplet-spec : {M : Type 1} → statement M
 get-interaction-at-triplet-spec =
     tie.close
     (tie.spec
     check-triplet-requires
+    enum-known-checked
     enum-told
-    enum-told-2
     answer-of-requires
     returns
     work-triplet-requires

@@ -1,25 +1,26 @@
 -- A set that fails a test is answered with its number and left as it is; one that passes is handed to the worker, and its strengths to the sum.
-use mathlib.Core.Path.{_≡_, refl, sym, _∙_}
+use mathlib.Core.Path.{_≡_, refl, sym, ap, _∙_}
 use native.Mathlib.Omega.{arith}
 use borrow.Author.Needs.{needs}
 use mir.ValLaws.{toZ-ofZ}
 use mir.Syntax.{w64}
-use Rattle.phonon.specs.Sets.{JoinedSet}
-use Rattle.phonon.specs.Limits.{sizesOf}
+use Rattle.phonon.specs.declared.Measures.{Measures}
+use Rattle.phonon.specs.Sets.{JoinedSet, tripletOf}
 use Rattle.phonon.specs.Refusal.{joinedRefusal}
-use Rattle.phonon.proofs.Shares.{tripletOf, joined-share}
-use Rattle.refusals.proofs.AnswerLaws.{passes}
+use Rattle.phonon.specs.Doors.{joinedOutcome}
+use Rattle.phonon.proofs.Shares.{joined-share}
+use Rattle.checks.proofs.AnswerLaws.{passes}
 use Rattle.real_to_normal.proofs.AcceptedLaws.{frequency-fits}
 use Rattle.joined.proofs.JoinedLaws.{lengths, few, sized, accepted, refused}
 use Rattle.joined.proofs.joined_at_triplet.Statement.{statement}
 use Rattle.joined.proofs.joined_at_triplet.Tie as tie
 
--- the set that the contract speaks of
-abbrev handed : tie.Start → JoinedSet
-handed s =
+-- the set that the contract speaks of, with measures m
+abbrev handed : tie.Start → Measures → JoinedSet
+handed s m =
     record {
       tables = record {
-        measures = s .args .m;
+        measures = m;
         settings = s .args .settings;
         symmetry = s .args .symmetry;
         crystal = record {
@@ -45,11 +46,11 @@ handed s =
 check-joined-requires : tie.Need-check-joined-requires
 check-joined-requires c κs = search needs
 
+enum-known-checked : tie.Need-enum-known-checked
+enum-known-checked c = search needs
+
 enum-told : tie.Need-enum-told
 enum-told c = search needs
-
-enum-told-2 : tie.Need-enum-told-2
-enum-told-2 c = search needs
 
 answer-of-requires : tie.Need-answer-of-requires
 answer-of-requires c κs = search needs
@@ -57,33 +58,35 @@ answer-of-requires c κs = search needs
 returns : tie.Need-returns
 returns c =
     let s = c .before .before .before .before .before .before .before .before .before .before .before .before .before .before .before .before .before in
-    refused (handed s) (sizesOf (s .args .m) (s .args .form)) _ _ _ (c .before .before .before .check-joined .ensures (s .args .strengths .now) (s .args .totals .now) (s .args .work .now) refl refl refl) (c .before .enum-told2 .given .1) (c .answer-of .ensures)
+    refused (handed s (s .args .m)) _ _ _ _ (c .before .before .before .check-joined .ensures (s .args .strengths .now) (s .args .totals .now) (s .args .work .now) refl refl refl) (c .before .enum-told .given .1) (c .answer-of .ensures)
 
 -- the function's entry, from the place where the tests have passed, and what they told there
-abbrev entry : tie.After-enum-told → tie.Start
-entry c = c .before .before .before .before .before .before .before .before .before .before .before .before .before .before .before .before
+abbrev entry : tie.After-known-told → tie.Start
+entry c = c .before .before .before .before .before .before .before .before .before .before .before .before .before .before .before .before .before
 
-passed : (c : tie.After-enum-told) → joinedRefusal (handed (entry c)) ≡ 0
-passed c =
-    let s = entry c in
-    passes (joinedRefusal (handed s)) (sizesOf (s .args .m) (s .args .form)) _ (sym (c .enum-told .given .1) ∙ c .before .before .check-joined .ensures (s .args .strengths .now) (s .args .totals .now) (s .args .work .now) refl refl refl)
+told : (c : tie.After-known-told) → (joinedRefusal (handed (entry c) (entry c .args .m)) ≡ 0) × (c .before .checked .given .0 .0 ≡ entry c .args .m)
+told c = passes _ _ _ (sym (c .before .checked .given .1) ∙ c .before .before .before .check-joined .ensures (entry c .args .strengths .now) (entry c .args .totals .now) (entry c .args .work .now) refl refl refl)
+
+-- the set with the measures that were told
+abbrev set : tie.After-known-told → JoinedSet
+set c = handed (entry c) (c .before .checked .given .0 .0)
+
+passed : (c : tie.After-known-told) → joinedRefusal (set c) ≡ 0
+passed c = ap (λ m. joinedRefusal (handed (entry c) m)) (told c .1) ∙ told c .0
 
 work-triplet-requires : tie.Need-work-triplet-requires
-work-triplet-requires c κs = joined-share (handed (entry (c .before .before))) (passed (c .before .before))
+work-triplet-requires c κs = joined-share (set (c .before .before)) (passed (c .before .before))
 
 mul-write-totals : tie.Need-mul-write-totals
-mul-write-totals c =
-    let k = c .before .before .before .before .before .before .before .before in
-    omega (arith, few (handed (entry k)) (passed k))
+mul-write-totals c = let k = c .before .before .before .before .before .before .before .before in omega (arith, few (set k) (passed k))
 
 write-totals-requires : tie.Need-write-totals-requires
 write-totals-requires c κs =
     let k = c .before .before .before .before .before .before .before .before .before .before .before in
-    let s = handed (entry k) in
     let e = passed k in
-    let n = lengths s e in
-    let fits = frequency-fits (tripletOf s) (joined-share s e) in
-    (sized s e _ _ _ (search needs) (search needs) (search needs), fits 1, fits 2)
+    let n = lengths (set k) e in
+    let fits = frequency-fits (tripletOf (set k)) (joined-share (set k) e) in
+    (sized (set k) e _ _ _ (search needs) (search needs) (search needs), fits 1, fits 2)
 
 same-length : tie.Need-same-length
 same-length c = search needs
@@ -97,18 +100,17 @@ same-length-3 c = search needs
 returns-2 : tie.Need-returns-2
 returns-2 c =
     let k = c .before .before .before .before .before .before .before .before .before .before .before .before .before .before in
-    let s = handed (entry k) in
-    let weight = toZ-ofZ w64 (s .bath .weight) (record { sfits = c .before .before .before .struct-told .given .0 .1 }) in
+    let weight = toZ-ofZ w64 (set k .bath .weight) (record { sfits = c .before .before .before .struct-told .given .0 .1 }) in
     let r = c .before .before .before .before .before .before .before .before .before .before .before .work-triplet .ensures in
-    accepted s (passed k) (r .0) (rw weight at (c .before .before .write-totals .ensures)) (r .1)
+    accepted (set k) (passed k) (r .0) (rw weight at (c .before .before .write-totals .ensures)) (r .1) ∙ ap (λ m. joinedOutcome (handed (entry k) m)) (told k .1)
 
 pub joined-at-triplet-spec : {M : Type 1} → statement M
 joined-at-triplet-spec =
     tie.close
     (tie.spec
     check-joined-requires
+    enum-known-checked
     enum-told
-    enum-told-2
     answer-of-requires
     returns
     work-triplet-requires

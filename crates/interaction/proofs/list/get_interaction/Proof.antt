@@ -1,22 +1,24 @@
 -- A set that fails a test is answered with its number and left as it is; one that passes is handed to the worker.
 use mathlib.Core.Path.{_≡_, refl, sym, ap, _∙_}
 use borrow.Author.Needs.{needs}
-use Rattle.phonon.specs.Sets.{slots, ListSet}
+use Rattle.phonon.specs.declared.Measures.{Measures}
+use Rattle.phonon.specs.Sets.{ListSet}
 use Rattle.phonon.specs.Limits.{sizesOf}
 use Rattle.phonon.specs.Refusal.{listRefusal}
-use Rattle.refusals.specs.declared.Checked.the-variants.{Good}
-use Rattle.refusals.specs.Answers.{checkedOf}
-use Rattle.refusals.proofs.AnswerLaws.{passes, sizes-told}
+use Rattle.phonon.specs.Doors.{listOutcome}
+use Rattle.checks.proofs.MeasureLaws.{modest}
+use Rattle.checks.proofs.AnswerLaws.{passes}
 use Rattle.interaction.proofs.DoorLaws.{list-refused, list-accepted}
+use Rattle.interaction.proofs.ListLaws.{list-facts}
 use Rattle.interaction.proofs.list.get_interaction.Statement.{statement}
 use Rattle.interaction.proofs.list.get_interaction.Tie as tie
 
--- the set that the contract speaks of
-abbrev handed : tie.Start → ListSet
-handed s =
+-- the set that the contract speaks of, with measures m
+abbrev handed : tie.Start → Measures → ListSet
+handed s m =
     record {
       tables = record {
-        measures = s .args .m;
+        measures = m;
         settings = s .args .settings;
         symmetry = s .args .symmetry;
         crystal = record {
@@ -51,23 +53,24 @@ answer-of-requires c κs = search needs
 returns : tie.Need-returns
 returns c =
     let s = c .before .before .before .before .before .before .before .before .before .before .before .before .before .before in
-    list-refused (handed s) (sizesOf (s .args .m) (s .args .form)) _ _ _ (c .before .before .before .check-list .ensures (s .args .strengths .now) (s .args .work .now) refl refl) (c .before .enum-told .given .1) (c .answer-of .ensures)
+    list-refused (handed s (s .args .m)) _ _ _ _ (c .before .before .before .check-list .ensures (s .args .strengths .now) (s .args .work .now) refl refl) (c .before .enum-told .given .1) (c .answer-of .ensures)
 
--- the tests have passed, and told the sizes
+-- the tests have passed, and told the measures
 abbrev start : tie.After-known-told → tie.Start
 start c = c .before .before .before .before .before .before .before .before .before .before .before .before .before .before
 
-told : (c : tie.After-known-told) → Good (c .before .checked .given .0 .0) ≡ checkedOf (listRefusal (handed (start c))) (sizesOf (start c .args .m) (start c .args .form))
-told c = sym (c .before .checked .given .1) ∙ c .before .before .before .check-list .ensures (start c .args .strengths .now) (start c .args .work .now) refl refl
+told : (c : tie.After-known-told) → (listRefusal (handed (start c) (start c .args .m)) ≡ 0) × (c .before .checked .given .0 .0 ≡ start c .args .m)
+told c = passes _ _ _ (sym (c .before .checked .given .1) ∙ c .before .before .before .check-list .ensures (start c .args .strengths .now) (start c .args .work .now) refl refl)
 
-passed : (c : tie.After-known-told) → listRefusal (handed (start c)) ≡ 0
-passed c = passes (listRefusal (handed (start c))) _ _ (told c)
+passed : (c : tie.After-known-told) → listRefusal (handed (start c) (c .before .checked .given .0 .0)) ≡ 0
+passed c = ap (λ m. listRefusal (handed (start c) m)) (told c .1) ∙ told c .0
+
+sizes-of-requires : tie.Need-sizes-of-requires
+sizes-of-requires c κs = modest _ (list-facts _ (passed c) .measures)
 
 work-list-requires : tie.Need-work-list-requires
 unfolding sizesOf
-work-list-requires c κs =
-    let d = c .before .before in
-    (ap (λ z. z .slots) (sizes-told (listRefusal (handed (start d))) _ _ (told d)), passed d)
+work-list-requires c κs = (ap (λ z. z .slots) (c .before .before .sizes-of .ensures), passed (c .before .before .before))
 
 same-length : tie.Need-same-length
 same-length c = search needs
@@ -77,9 +80,9 @@ same-length-2 c = search needs
 
 returns-2 : tie.Need-returns-2
 returns-2 c =
-    let d = c .before .before .before .before .before .before .before in
+    let k = c .before .before .before .before .before .before .before .before in
     let r = c .before .before .before .before .work-list .ensures in
-    list-accepted (handed (start d)) (passed d) (r .0) (r .1)
+    list-accepted _ (passed k) (r .0) (r .1) ∙ ap (λ m. listOutcome (handed (start k) m)) (told k .1)
 
 pub get-interaction-spec : {M : Type 1} → statement M
 get-interaction-spec =
@@ -90,6 +93,7 @@ get-interaction-spec =
     enum-told
     answer-of-requires
     returns
+    sizes-of-requires
     work-list-requires
     same-length
     same-length-2

@@ -8,7 +8,7 @@ use lib.ListN.{getD}
 use borrow.Author.Needs.{needs}
 use Rattle.phonon.specs.Tests.{everyBelow}
 use Rattle.checks.proofs.Laws.{told-good, told-bad, every-bad}
-use Rattle.refusals.specs.Phases.{ordersFor}
+use Rattle.phonon.specs.Refusal.{ordersOk}
 use Rattle.phonon.proofs.Accepted.{every-none, every-next}
 use Rattle.refusals.proofs.PhaseLaws.{orderFine, orders-are, count-most, places, exchanged-is}
 use Rattle.refusals.proofs.phases.orders_ok.Statement.{statement}
@@ -31,7 +31,7 @@ order-in c = omega (arith, c .loop-test .taken, c .before .before .order-count .
 all-told :
     (c : tie.After-order-count Inv-loop μ-loop)
     → everyBelow (fine (c .before .before)) (c .order-count .result)
-    ≡ ordersFor
+    ≡ ordersOk
     (c .before .before .args .atoms)
     (c .before .before .args .symmetry)
     (c .before .before .args .vectors .now)

@@ -1,7 +1,7 @@
 -- Each call told one of the tests.
 use mathlib.Core.Path.{refl}
 use Rattle.phonon.specs.Tests.{allTrue, allTrueAfter}
-use Rattle.refusals.specs.Slices.{meshFor}
+use Rattle.phonon.specs.Refusal.{meshOk}
 use borrow.Author.Needs.{needs}
 use Rattle.refusals.proofs.tables.mesh_ok.Statement.{statement}
 use Rattle.refusals.proofs.tables.mesh_ok.Tie as tie
@@ -22,7 +22,7 @@ all-within-requires-3 : tie.Need-all-within-requires-3
 all-within-requires-3 c κs = search needs
 
 returns : tie.Need-returns
-unfolding meshFor allTrue allTrueAfter
+unfolding meshOk allTrue allTrueAfter
 returns c =
     rw (c .before .before .before .all-within .ensures, c .before .all-within2 .ensures, c .all-within3 .ensures) refl
 

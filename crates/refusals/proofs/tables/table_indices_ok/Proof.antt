@@ -6,7 +6,7 @@ use mir.ValLaws.{toZ-pos}
 use mir.Syntax.{w64}
 use Rattle.phonon.specs.Tests.{allTrue, allTrueAfter}
 use Rattle.phonon.proofs.Accepted.{measured-facts}
-use Rattle.refusals.specs.Slices.{indicesFor}
+use Rattle.phonon.specs.Refusal.{indicesOk}
 use borrow.Author.Needs.{needs}
 use Rattle.refusals.proofs.tables.table_indices_ok.Statement.{statement}
 use Rattle.refusals.proofs.tables.table_indices_ok.Tie as tie
@@ -39,7 +39,7 @@ all-ranges-requires : tie.Need-all-ranges-requires
 all-ranges-requires c κs = search needs
 
 returns : tie.Need-returns
-unfolding indicesFor allTrue allTrueAfter
+unfolding indicesOk allTrue allTrueAfter
 returns c =
     let a = c .before .before .before .before in
     let h = measured-facts _ (a .pre .0) in

@@ -1,7 +1,7 @@
 -- Each call told one of the tests.
 use mathlib.Core.Path.{refl}
 use Rattle.phonon.specs.Tests.{allTrue, allTrueAfter}
-use Rattle.refusals.specs.Slices.{finiteFor}
+use Rattle.phonon.specs.Refusal.{tablesFinite}
 use borrow.Author.Needs.{needs}
 use Rattle.refusals.proofs.tables.tables_finite.Statement.{statement}
 use Rattle.refusals.proofs.tables.tables_finite.Tie as tie
@@ -25,7 +25,7 @@ all-finite-requires-5 : tie.Need-all-finite-requires-5
 all-finite-requires-5 c κs = search needs
 
 returns : tie.Need-returns
-unfolding finiteFor allTrue allTrueAfter
+unfolding tablesFinite allTrue allTrueAfter
 returns c =
     rw (
       c .before .before .before .before .before .is-finite .ensures,

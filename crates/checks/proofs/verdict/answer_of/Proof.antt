@@ -1,9 +1,9 @@
 -- By the two cases.
 use mathlib.Core.Path.{refl}
 use borrow.Author.Needs.{needs}
-use Rattle.imag_self_energy.specs.Check.{answerOf}
-use Rattle.imag_self_energy.proofs.check.answer_of.Statement.{statement}
-use Rattle.imag_self_energy.proofs.check.answer_of.Tie as tie
+use Rattle.checks.specs.Answers.{answerOf}
+use Rattle.checks.proofs.verdict.answer_of.Statement.{statement}
+use Rattle.checks.proofs.verdict.answer_of.Tie as tie
 
 enum-told : tie.Need-enum-told
 enum-told c = search needs

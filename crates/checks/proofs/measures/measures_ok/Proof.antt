@@ -7,8 +7,8 @@ use mathlib.Core.Path.{_≡_, refl}
 use Rattle.phonon.specs.Tests.{allTrue, allTrueAfter}
 use Rattle.phonon.specs.Limits.{atomsOk}
 use Rattle.phonon.specs.Refusal.{measuresOk}
-use Rattle.refusals.proofs.measures.measures_ok.Statement.{statement}
-use Rattle.refusals.proofs.measures.measures_ok.Tie as tie
+use Rattle.checks.proofs.measures.measures_ok.Statement.{statement}
+use Rattle.checks.proofs.measures.measures_ok.Tie as tie
 
 returns : tie.Need-returns
 unfolding measuresOk allTrue allTrueAfter

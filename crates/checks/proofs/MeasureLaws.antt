@@ -10,9 +10,9 @@ use Rattle.phonon.specs.declared.Sizes.{Sizes}
 use Rattle.phonon.specs.Limits.{listOk, sizesOf}
 use Rattle.phonon.specs.Refusal.{measuresOk}
 use Rattle.phonon.proofs.Accepted.{measured-in, measured-facts}
 use Rattle.checks.specs.Modest.{Modest}
-use Rattle.refusals.specs.declared.Measured.the-variants.{Within, Beyond}
-use Rattle.refusals.specs.Answers.{withSizes, measuredOf}
+use Rattle.checks.specs.declared.verdict.Measured.the-variants.{Within, Beyond}
+use Rattle.checks.specs.Answers.{withSizes, measuredOf}
 
 -- document 01's limits are no wider
 pub modest : (m : Measures) → measuresOk m ≡ true → Modest m

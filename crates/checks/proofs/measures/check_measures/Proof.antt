@@ -3,10 +3,10 @@ use borrow.Author.Needs.{needs}
 use mathlib.Core.Bool.{true, false}
 use mathlib.Core.Path.{_≡_, refl, sym, _∙_}
 use Rattle.phonon.specs.Refusal.{measuresOk}
-use Rattle.refusals.specs.Answers.{measuredOf}
-use Rattle.refusals.proofs.MeasureLaws.{modest}
-use Rattle.refusals.proofs.measures.check_measures.Statement.{statement}
-use Rattle.refusals.proofs.measures.check_measures.Tie as tie
+use Rattle.checks.specs.Answers.{measuredOf}
+use Rattle.checks.proofs.MeasureLaws.{modest}
+use Rattle.checks.proofs.measures.check_measures.Statement.{statement}
+use Rattle.checks.proofs.measures.check_measures.Tie as tie
 
 measures-ok-requires : tie.Need-measures-ok-requires
 measures-ok-requires c κs = search needs

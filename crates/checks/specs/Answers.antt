@@ -1,4 +1,4 @@
--- What the tests of a set answer.
+-- What the checks of a set answer.
 use Prim.Native.Nat.{ℕ, zero, suc}
 use mathlib.Core.Bool.{Bool, true, false}
 use Rattle.phonon.specs.declared.Answer.{Answer}
@@ -8,10 +8,10 @@ use Rattle.phonon.specs.declared.Form.{Form}
 use Rattle.phonon.specs.declared.Sizes.{Sizes}
 use Rattle.phonon.specs.Limits.{sizesOf}
 use Rattle.phonon.specs.Refusal.{measuresOk}
-use Rattle.refusals.specs.declared.Measured.{Measured}
-use Rattle.refusals.specs.declared.Measured.the-variants.{Within, Beyond}
-use Rattle.refusals.specs.declared.Checked.{Checked}
-use Rattle.refusals.specs.declared.Checked.the-variants.{Good, Bad}
+use Rattle.checks.specs.declared.verdict.Measured.{Measured}
+use Rattle.checks.specs.declared.verdict.Measured.the-variants.{Within, Beyond}
+use Rattle.checks.specs.declared.verdict.Checked.{Checked}
+use Rattle.checks.specs.declared.verdict.Checked.the-variants.{Good, Bad}
 
 abbrev pub withSizes : Bool → Sizes → Measured
 withSizes true z = Within z
@@ -21,12 +21,17 @@ withSizes false z = Beyond
 unfoldable pub measuredOf : Measures → Form → Measured
 measuredOf m form = withSizes (measuresOk m) (sizesOf m form)
 
--- the one answer to a set whose refusal is n, and whose slices have the sizes z; 0 is no refusal
-unfoldable pub checkedOf : ℕ → Sizes → Checked
-checkedOf zero z = Good z
-checkedOf (suc n) z = Bad (suc n)
+-- the one answer to a set of measures m whose refusal is n; 0 is no refusal
+unfoldable pub checkedOf : ℕ → Measures → Checked
+checkedOf zero m = Good m
+checkedOf (suc n) m = Bad (suc n)
+
+-- the number in it
+unfoldable pub numberIn : Checked → ℕ
+numberIn (Good m) = 0
+numberIn (Bad n) = n
 
 -- the door's answer that it stands for
 unfoldable pub answerOf : Checked → Answer
-answerOf (Good z) = Accepted
+answerOf (Good m) = Accepted
 answerOf (Bad n) = Refused n

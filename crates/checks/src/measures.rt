@@ -1,14 +1,14 @@
 // Number 1: the measures and the list's count within their limits, and the sizes that the measures fix.
-use crate::Measured;
-use checks::is_measured;
-use checks::limits;
-use checks::sizes::sizes_of;
+use crate::is_measured;
+use crate::limits;
+use crate::sizes::sizes_of;
+use crate::verdict::Measured;
 use phonon::Form;
 use phonon::Measures;
 ghost use mathlib.Core.Path.{_≡_};
 ghost use Rattle.phonon.specs.Limits.{listOk};
 ghost use Rattle.phonon.specs.Refusal.{measuresOk};
-ghost use Rattle.refusals.specs.Answers.{measuredOf};
+ghost use Rattle.checks.specs.Answers.{measuredOf};
 
 // The atoms are tested by themselves first, so that 3 * atoms fits.
 fn measures_ok(m: Measures) -> bool
