@@ -25,7 +25,7 @@ use Rattle.carton.proofs.FileLaws.{file-10, file-11, file-12, file-read}
 use Rattle.carton.proofs.HeadingLaws.{read-good, read-wrong}
 use Rattle.io.specs.Counts.{Counts}
 use Rattle.text.specs.Lines.{refusedLine, acceptedText, answeredText, setText}
-use Rattle.text.specs.Wrote.{Wrote}
+use Rattle.text.specs.Printed.{Printed}
 use Rattle.answer.specs.Text.{zeros, startOf, fileText, answerText}
 
 -- ---- the set
@@ -89,7 +89,7 @@ pub long-file : (s : List ℕ) → 49153 ≤ length s → answerText (take 49153
 long-file s h = sym (answer-10 (take 49153 s) (too-long (take 49153 s) (omega (arith, length-take-le 49153 s h)))) ∙ answer-10 s (too-long s h)
 
 -- a text from the start of a buffer, as a count of the buffer's bytes
-pub with-count : {t line u : List ℕ} {r : ℕ} → Wrote t 0 line u r → Wrote t 0 line u r × Counts r u
+pub with-count : {t line u : List ℕ} {r : ℕ} → Printed t 0 line u r → Printed t 0 line u r × Counts r u
 with-count {t} {line} {u} {r} w =
     let e = ap (λ (x : List ℕ). length x) (w .bytes) in
     let m = length-take r u in

@@ -15,7 +15,7 @@ ghost use Rattle.carton.specs.Tables.{columnsOf};
 ghost use Rattle.io.specs.Counts.{Counts};
 ghost use Rattle.text.specs.Lines.{setText};
 ghost use Rattle.text.specs.Room.{acceptedRoom};
-ghost use Rattle.text.specs.Wrote.{Wrote};
+ghost use Rattle.text.specs.Printed.{Printed};
 ghost use Rattle.answer.specs.Text.{zeros, startOf, answerText};
 
 // The text of a carton's set, from every word as an f64, as an integer and as a byte.
@@ -36,7 +36,7 @@ fn set_text(
         × (now totals ≡ zeros (h .measures .first))
         × (now work ≡ zeros mostWork)
         × (acceptedRoom ≤ length (now text)) ⌝ }
-    ensures { λ r. ⌜ Wrote (now (text .entry)) 0
+    ensures { λ r. ⌜ Printed (now (text .entry)) 0
         (setText (startOf (record { floats = now (floats .entry); ints = now (ints .entry); bytes = now (bytes .entry) }) h))
         (now (text .exit)) r ⌝ }
 {
@@ -80,7 +80,7 @@ fn words_text(
         × (now totals ≡ zeros (h .measures .first))
         × (now work ≡ zeros mostWork)
         × (acceptedRoom ≤ length (now text)) ⌝ }
-    ensures { λ r. ⌜ Wrote (now (text .entry)) 0 (setText (startOf (columnsOf (now (words .entry))) h)) (now (text .exit)) r ⌝ }
+    ensures { λ r. ⌜ Printed (now (text .entry)) 0 (setText (startOf (columnsOf (now (words .entry))) h)) (now (text .exit)) r ⌝ }
 {
     carton::read_floats(words, floats);
     carton::read_ints(words, ints);
@@ -123,7 +123,7 @@ fn zero_words() -> [u64; 6048]
 // The text of a carton whose words are read; columns and buffers are arrays of its own.
 fn heading_text(h: Heading, words: &[u64], text: &mut [u8]) -> usize
     requires { ⌜ Fitted h (length (now words)) × (acceptedRoom ≤ length (now text)) ⌝ }
-    ensures { λ r. ⌜ Wrote (now (text .entry)) 0 (setText (startOf (columnsOf (now (words .entry))) h)) (now (text .exit)) r ⌝ }
+    ensures { λ r. ⌜ Printed (now (text .entry)) 0 (setText (startOf (columnsOf (now (words .entry))) h)) (now (text .exit)) r ⌝ }
 {
     let n = words.len();
     let m = h.measures;
@@ -155,7 +155,7 @@ fn blocks_text(input: &[u8], words: &mut [u64], text: &mut [u8]) -> usize
         × (blocksOk (now input) ≡ true)
         × (length (now words) ≡ 63 * (length (now input) / 512))
         × (acceptedRoom ≤ length (now text)) ⌝ }
-    ensures { λ r. ⌜ Wrote (now (text .entry)) 0 (answerText (now (input .entry))) (now (text .exit)) r ⌝ }
+    ensures { λ r. ⌜ Printed (now (text .entry)) 0 (answerText (now (input .entry))) (now (text .exit)) r ⌝ }
 {
     carton::read_words(input, words);
     let read = carton::heading_of(words);
@@ -180,7 +180,7 @@ pub fn text_buffer() -> [u8; 25600]
 
 // The text for the bytes of any file, at the start of the buffer; its length.
 pub fn answer(input: &[u8], text: &mut [u8; 25600]) -> usize
-    ensures { λ r. ⌜ Wrote (now (text .entry)) 0 (answerText (now (input .entry))) (now (text .exit)) r ⌝ }
+    ensures { λ r. ⌜ Printed (now (text .entry)) 0 (answerText (now (input .entry))) (now (text .exit)) r ⌝ }
     ensures { λ r. ⌜ Counts r (now (text .exit)) ⌝ }
 {
     if !carton::size_ok(input) {

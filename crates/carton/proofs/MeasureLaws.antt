@@ -12,7 +12,7 @@ use Rattle.phonon.specs.declared.Measures.{Measures}
 use Rattle.phonon.specs.declared.Sizes.{Sizes}
 use Rattle.phonon.specs.declared.Form.{Form}
 use Rattle.phonon.specs.Limits.{sizesOf}
-use Rattle.checks.specs.Modest.{Modest}
+use Rattle.checks.specs.Small.{Small}
 use Rattle.checks.proofs.Laws.{and-left, and-right}
 use Rattle.checks.proofs.SizeLaws.{products}
 use Rattle.carton.specs.Most.{mostWords}
@@ -21,14 +21,7 @@ use Rattle.carton.specs.Heading.{filled, placesWith, placesOf, measuresN
 use Rattle.carton.specs.Fitted.{Placed}
 use Rattle.carton.specs.Small.{smallOk}
 
-pub record Small (m : Measures) : Type 0 where
-  pub atoms : m .atoms ≤ mostWords
-  pub supercell : m .supercell ≤ mostWords
-  pub first : m .first ≤ mostWords
-  pub grid : m .grid ≤ mostWords
-  pub vectors : m .vectors ≤ mostWords
-
-small : (m : Measures) → smallOk m ≡ true → Small m
+small : (m : Measures) → smallOk m ≡ true → Small mostWords m
 unfolding smallOk
 small m e =
     let p = leb (m .atoms) mostWords in
@@ -47,19 +40,19 @@ small m e =
       vectors = leb-true _ _ (and-right (((p && s) && f) && g) v e);
     }
 
-is-small : (m : Measures) → Small m → smallOk m ≡ true
+is-small : (m : Measures) → Small mostWords m → smallOk m ≡ true
 unfolding smallOk
 is-small m h =
     rw (le-leb _ _ (h .atoms), le-leb _ _ (h .supercell), le-leb _ _ (h .first), le-leb _ _ (h .grid), le-leb _ _ (h .vectors)) refl
 
-pub modest : (m : Measures) → smallOk m ≡ true → Modest m
-modest m e =
+pub small-sizes : (m : Measures) → smallOk m ≡ true → Small 65536 m
+small-sizes m e =
     let h = small m e in
     record { atoms = omega arith; supercell = omega arith; first = omega arith; grid = omega arith; vectors = omega arith }
 
 -- what the places are summed up of
 pub record Sized (m : Measures) (z : Sizes) : Type 0 where
-  pub measures : Modest m
+  pub measures : Small 65536 m
   pub addresses : z .addresses ≤ 10000000000000000
   pub vectors : z .vectors ≤ 10000000000000000
   pub multiplicity : z .multiplicity ≤ 10000000000000000
@@ -73,7 +66,7 @@ pub record Sized (m : Measures) (z : Sizes) : Type 0 where
 pub sized : (m : Measures) (form : Form) (z : Sizes) → smallOk m ≡ true → z ≡ sizesOf m form → Sized m z
 unfolding sizesOf
 sized m form z e q =
-    let h = modest m e in
+    let h = small-sizes m e in
     let b = products m form h in
     rw q
     (record {
@@ -115,7 +108,7 @@ placed m form p n e h =
     })
 
 -- each measure has a table at least as long
-pub measures-before : (m : Measures) (form : Form) → placesOf m form .end ≤ mostWords → Small m
+pub measures-before : (m : Measures) (form : Form) → placesOf m form .end ≤ mostWords → Small mostWords m
 unfolding placesWith sizesOf
 measures-before m form h =
     record { atoms = omega arith; supercell = omega arith; first = omega arith; grid = omega arith; vectors = omega arith }

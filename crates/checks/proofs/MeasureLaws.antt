@@ -10,13 +10,13 @@ use Rattle.phonon.specs.declared.Sizes.{Sizes}
 use Rattle.phonon.specs.Limits.{listOk, sizesOf}
 use Rattle.phonon.specs.Refusal.{measuresOk}
 use Rattle.phonon.proofs.Accepted.{measured-in, measured-facts}
-use Rattle.checks.specs.Modest.{Modest}
+use Rattle.checks.specs.Small.{Small}
 use Rattle.checks.specs.declared.verdict.Measured.the-variants.{Within, Beyond}
 use Rattle.checks.specs.Answers.{withSizes, measuredOf}
 
 -- document 01's limits are no wider
-pub modest : (m : Measures) → measuresOk m ≡ true → Modest m
-modest m e =
+pub small : (m : Measures) → measuresOk m ≡ true → Small 65536 m
+small m e =
     let h = measured-facts m e in
     record { atoms = omega arith; supercell = omega arith; first = omega arith; grid = omega arith; vectors = omega arith }
 

@@ -6,12 +6,12 @@ use Rattle.phonon.specs.declared.Measures.{Measures}
 use Rattle.phonon.specs.declared.Form.{Form}
 use Rattle.phonon.specs.declared.Form.the-variants.{Compact, Full}
 use Rattle.phonon.specs.Limits.{rowsOf}
-use Rattle.checks.specs.Modest.{Modest}
+use Rattle.checks.specs.Small.{Small}
 
-rows-modest : (m : Measures) (form : Form) → Modest m → rowsOf form m ≤ 65536
+rows-small : (m : Measures) (form : Form) → Small 65536 m → rowsOf form m ≤ 65536
 unfolding rowsOf
-rows-modest m Compact h = h .atoms
-rows-modest m Full h = h .supercell
+rows-small m Compact h = h .atoms
+rows-small m Full h = h .supercell
 
 -- of P, S, F, G and the rows of the force constants
 pub record Products (p s f g r : ℕ) : Type 0 where
@@ -26,12 +26,12 @@ pub record Products (p s f g r : ℕ) : Type 0 where
   pub row : f * (3 * p) ≤ 65536 * 196608
   pub slots : f * (3 * p) * (3 * p) ≤ 65536 * 196608 * 196608
 
-pub products : (m : Measures) (form : Form) → Modest m → Products (m .atoms) (m .supercell) (m .first) (m .grid) (rowsOf form m)
+pub products : (m : Measures) (form : Form) → Small 65536 m → Products (m .atoms) (m .supercell) (m .first) (m .grid) (rowsOf form m)
 products m form h =
     let bands : 3 * m .atoms ≤ 196608 = omega arith in
     let frequencies = mul-le-mul (h .grid) bands in
     let atom-pairs = mul-le-mul (h .atoms) (h .supercell) in
-    let row-pairs = mul-le-mul (rows-modest m form h) (h .supercell) in
+    let row-pairs = mul-le-mul (rows-small m form h) (h .supercell) in
     let row = mul-le-mul (h .first) bands in
     record {
       bands = bands;

@@ -1,4 +1,4 @@
 -- What the contracts of the scans, of the sizes and of the checks' answers say beside phonon's definitions.
 pub mod Scan
-pub mod Modest
+pub mod Small
 pub mod Answers

@@ -4,7 +4,7 @@ use phonon::Measures;
 use phonon::Sizes;
 ghost use mathlib.Core.Path.{_≡_};
 ghost use Rattle.phonon.specs.Limits.{rowsOf, sizesOf};
-ghost use Rattle.checks.specs.Modest.{Modest};
+ghost use Rattle.checks.specs.Small.{Small};
 
 // The rows of the force constants.
 fn rows_of(m: Measures, form: Form) -> usize
@@ -17,7 +17,7 @@ fn rows_of(m: Measures, form: Form) -> usize
 }
 
 pub fn sizes_of(m: Measures, form: Form) -> Sizes
-    requires { ⌜ Modest m ⌝ }
+    requires { ⌜ Small 65536 m ⌝ }
     ensures { λ r. ⌜ r ≡ sizesOf m form ⌝ }
 {
     let rows = rows_of(m, form);

@@ -10,7 +10,7 @@ use borrow.Author.Count.{below-more}
 use lib.Ieee.{Float, nan}
 use Rattle.phonon.specs.declared.Complex.{Complex}
 use Rattle.phonon.specs.Number.{at}
-use Rattle.planes.specs.Region.{Wrote, Kept}
+use Rattle.planes.specs.Region.{Wrote, SameOutside}
 use Rattle.planes.specs.Split.{split, WroteSplit}
 use Rattle.planes.proofs.SplitLaws.{complex-eq}
 
@@ -71,19 +71,19 @@ split-to n n′ e w = rw e at w
 
 -- ---- what is left as it was
 
-pub kept-none : (l : List Float) (a b : ℕ) → Kept l l a b
-kept-none l a b = record { size = refl; before = λ j h. refl; after = λ j h. refl }
+pub outside-none : (l : List Float) (a b : ℕ) → SameOutside l l a b
+outside-none l a b = record { size = refl; before = λ j h. refl; after = λ j h. refl }
 
-pub kept-then : {l l₁ l₂ : List Float} {a b : ℕ} → Kept l l₁ a b → Kept l₁ l₂ a b → Kept l l₂ a b
-kept-then w v = record { size = v .size ∙ w .size; before = λ j h. v .before j h ∙ w .before j h; after = λ j h. v .after j h ∙ w .after j h }
+pub outside-then : {l l₁ l₂ : List Float} {a b : ℕ} → SameOutside l l₁ a b → SameOutside l₁ l₂ a b → SameOutside l l₂ a b
+outside-then w v = record { size = v .size ∙ w .size; before = λ j h. v .before j h ∙ w .before j h; after = λ j h. v .after j h ∙ w .after j h }
 
-pub kept-wider : {l l′ : List Float} {a b : ℕ} (a′ b′ : ℕ) → a′ ≤ a → b ≤ b′ → Kept l l′ a b → Kept l l′ a′ b′
-kept-wider a′ b′ p q w = record { size = w .size; before = λ j h. w .before j (omega arith); after = λ j h. w .after j (omega arith) }
+pub outside-wider : {l l′ : List Float} {a b : ℕ} (a′ b′ : ℕ) → a′ ≤ a → b ≤ b′ → SameOutside l l′ a b → SameOutside l l′ a′ b′
+outside-wider a′ b′ p q w = record { size = w .size; before = λ j h. w .before j (omega arith); after = λ j h. w .after j (omega arith) }
 
-pub kept-split : {l l′ : List Float} {off d n : ℕ} {f : ℕ → Complex} (a b : ℕ) → a ≤ off → off + d + n ≤ b → n ≡ d → WroteSplit l l′ off d n f → Kept l l′ a b
-kept-split {off = off} {d} {n} a b p q e w =
+pub outside-split : {l l′ : List Float} {off d n : ℕ} {f : ℕ → Complex} (a b : ℕ) → a ≤ off → off + d + n ≤ b → n ≡ d → WroteSplit l l′ off d n f → SameOutside l l′ a b
+outside-split {off = off} {d} {n} a b p q e w =
     record { size = w .size; before = λ j h. w .before j (omega arith); after = λ j h. w .after j (omega arith) }
 
 -- an array below what was written
-pub split-kept : {l l′ : List Float} {a b : ℕ} → Kept l l′ a b → (o d k : ℕ) → o + d + k < a → split l′ o d k ≡ split l o d k
-split-kept w o d k h = complex-eq (w .before _ (omega arith)) (w .before _ (omega arith))
+pub split-outside : {l l′ : List Float} {a b : ℕ} → SameOutside l l′ a b → (o d k : ℕ) → o + d + k < a → split l′ o d k ≡ split l o d k
+split-outside w o d k h = complex-eq (w .before _ (omega arith)) (w .before _ (omega arith))

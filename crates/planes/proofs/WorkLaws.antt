@@ -12,22 +12,22 @@ use Rattle.phonon.specs.Number.{table}
 use Rattle.phonon.specs.Common.{ctable}
 use Rattle.phonon.proofs.Laws.{table-at, table-length, ctable-ext, part-at, part-size}
 use Rattle.planes.specs.Split.{WroteSplit}
-use Rattle.planes.specs.Region.{Wrote, Kept}
+use Rattle.planes.specs.Region.{Wrote, SameOutside}
 use Rattle.planes.specs.Layout.{numbersIn, columnIn}
-use Rattle.planes.proofs.RegionLaws.{split-kept}
+use Rattle.planes.proofs.RegionLaws.{split-outside}
 
 -- ---- below the indices that are written
 
-pub column-below : {l l′ : List Float} {a b : ℕ} → Kept l l′ a b → (eo B n : ℕ) → eo + 2 * (B * B) ≤ a → n < B → columnIn l′ eo B n ≡ columnIn l eo B n
+pub column-below : {l l′ : List Float} {a b : ℕ} → SameOutside l l′ a b → (eo B n : ℕ) → eo + 2 * (B * B) ≤ a → n < B → columnIn l′ eo B n ≡ columnIn l eo B n
 unfolding columnIn
 column-below w eo B n h p =
-    ctable-ext B _ _ (λ m q. split-kept w eo (B * B) (m * B + n) (omega (arith, mul-le-mul-right B q)))
+    ctable-ext B _ _ (λ m q. split-outside w eo (B * B) (m * B + n) (omega (arith, mul-le-mul-right B q)))
 
-pub numbers-below : {l l′ : List Float} {a b : ℕ} → Kept l l′ a b → (off d n : ℕ) → off + d + n ≤ a → numbersIn l′ off d n ≡ numbersIn l off d n
+pub numbers-below : {l l′ : List Float} {a b : ℕ} → SameOutside l l′ a b → (off d n : ℕ) → off + d + n ≤ a → numbersIn l′ off d n ≡ numbersIn l off d n
 unfolding numbersIn
-numbers-below w off d n h = ctable-ext n _ _ (λ k q. split-kept w off d k (omega arith))
+numbers-below w off d n h = ctable-ext n _ _ (λ k q. split-outside w off d k (omega arith))
 
-pub reals-below : {l l′ : List Float} {a b : ℕ} → Kept l l′ a b → (off n : ℕ) → off + n ≤ a → off + n ≤ length l → take n (drop off l′) ≡ take n (drop off l)
+pub reals-below : {l l′ : List Float} {a b : ℕ} → SameOutside l l′ a b → (off n : ℕ) → off + n ≤ a → off + n ≤ length l → take n (drop off l′) ≡ take n (drop off l)
 reals-below {l} {l′} w off n h room =
     let s = part-size l off n room in
     let s′ = part-size l′ off n (omega (arith, w .size)) in
@@ -48,12 +48,12 @@ reals-wrote {l} {l′} {off} {n} {f} w room =
     let q : k < n = omega arith in
     part-at l′ off n k nan q ∙ w .inside k q ∙ sym (table-at n k f nan q))
 
-pub kept-wrote : {l l′ : List Float} {off n : ℕ} {f : ℕ → Float} (a b : ℕ) → a ≤ off → off + n ≤ b → Wrote l l′ off n f → Kept l l′ a b
-kept-wrote a b p q w = record { size = w .size; before = λ j h. w .before j (omega arith); after = λ j h. w .after j (omega arith) }
+pub outside-wrote : {l l′ : List Float} {off n : ℕ} {f : ℕ → Float} (a b : ℕ) → a ≤ off → off + n ≤ b → Wrote l l′ off n f → SameOutside l l′ a b
+outside-wrote a b p q w = record { size = w .size; before = λ j h. w .before j (omega arith); after = λ j h. w .after j (omega arith) }
 
 -- ---- behind the indices that are written
 
-pub drop-kept : {l l′ : List Float} {a b : ℕ} → Kept l l′ a b → (n : ℕ) → b ≤ n → drop n l′ ≡ drop n l
-drop-kept {l} {l′} w n h =
+pub drop-outside : {l l′ : List Float} {a b : ℕ} → SameOutside l l′ a b → (n : ℕ) → b ≤ n → drop n l′ ≡ drop n l
+drop-outside {l} {l′} w n h =
     ext-getD nan (drop n l′) (drop n l) (length-drop n l′ ∙ ap (λ (x : ℕ). x - n) (w .size) ∙ sym (length-drop n l)) (λ k p.
     getD-drop n l′ k nan ∙ w .after (n + k) (omega arith) ∙ sym (getD-drop n l k nan))

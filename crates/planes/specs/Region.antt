@@ -14,7 +14,7 @@ pub record Wrote (l l′ : List Float) (off n : ℕ) (f : ℕ → Float) : Type 
   pub after : (j : ℕ) → off + n ≤ j → at l′ j ≡ at l j
 
 -- l′ is l but for the indices from a to below b
-pub record Kept (l l′ : List Float) (a b : ℕ) : Type 0 where
+pub record SameOutside (l l′ : List Float) (a b : ℕ) : Type 0 where
   pub size : length l′ ≡ length l
   pub before : (j : ℕ) → j < a → at l′ j ≡ at l j
   pub after : (j : ℕ) → b ≤ j → at l′ j ≡ at l j

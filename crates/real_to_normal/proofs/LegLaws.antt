@@ -11,21 +11,21 @@ use Rattle.phonon.specs.Interaction.{leg}
 use Rattle.phonon.specs.RealToReciprocal.{phaseFactorEntry, phaseFactors}
 use Rattle.phonon.specs.ReciprocalToNormal.{inverseRoot, inverseRoots, column}
 use Rattle.planes.specs.Split.{WroteSplit}
-use Rattle.planes.specs.Region.{Wrote, Kept}
+use Rattle.planes.specs.Region.{Wrote, SameOutside}
 use Rattle.planes.specs.Layout.{columnIn, numbersIn}
-use Rattle.planes.proofs.RegionLaws.{kept-then, kept-wider, kept-split}
-use Rattle.planes.proofs.WorkLaws.{column-below, numbers-below, reals-below, numbers-wrote, reals-wrote, kept-wrote}
+use Rattle.planes.proofs.RegionLaws.{outside-then, outside-wider, outside-split}
+use Rattle.planes.proofs.WorkLaws.{column-below, numbers-below, reals-below, numbers-wrote, reals-wrote, outside-wrote}
 use Rattle.real_to_normal.specs.Work.{columnsAt, factorsAt, preAt, Prepared}
 
 -- ---- scaled eigenvectors
 
 module _ (P : ℕ) (eig : List Float) (g0 g1 g2 : ℕ) {l l₁ l₂ l₃ : List Float} (room : P ≤ length l)
     (s₀ : (n : ℕ) → n < 3 * P → columnIn l₁ P (3 * P) n ≡ column (3 * P) eig (take P (drop 0 l)) g0 n)
-    (k₀ : Kept l l₁ P (P + 2 * (3 * P * (3 * P))))
+    (k₀ : SameOutside l l₁ P (P + 2 * (3 * P * (3 * P))))
     (s₁ : (n : ℕ) → n < 3 * P → columnIn l₂ (P + 2 * (3 * P * (3 * P))) (3 * P) n ≡ column (3 * P) eig (take P (drop 0 l₁)) g1 n)
-    (k₁ : Kept l₁ l₂ (P + 2 * (3 * P * (3 * P))) (P + 2 * (3 * P * (3 * P)) + 2 * (3 * P * (3 * P))))
+    (k₁ : SameOutside l₁ l₂ (P + 2 * (3 * P * (3 * P))) (P + 2 * (3 * P * (3 * P)) + 2 * (3 * P * (3 * P))))
     (s₂ : (n : ℕ) → n < 3 * P → columnIn l₃ (P + 2 * (3 * P * (3 * P)) + 2 * (3 * P * (3 * P))) (3 * P) n ≡ column (3 * P) eig (take P (drop 0 l₂)) g2 n)
-    (k₂ : Kept l₂ l₃ (P + 2 * (3 * P * (3 * P)) + 2 * (3 * P * (3 * P))) (P + 2 * (3 * P * (3 * P)) + 2 * (3 * P * (3 * P)) + 2 * (3 * P * (3 * P)))) where
+    (k₂ : SameOutside l₂ l₃ (P + 2 * (3 * P * (3 * P)) + 2 * (3 * P * (3 * P))) (P + 2 * (3 * P * (3 * P)) + 2 * (3 * P * (3 * P)) + 2 * (3 * P * (3 * P)))) where
   abbrev D : ℕ
   D = 3 * P * (3 * P)
 
@@ -47,10 +47,10 @@ module _ (P : ℕ) (eig : List Float) (g0 g1 g2 : ℕ) {l l₁ l₂ l₃ : List 
       ap (λ o. columnIn l₃ o (3 * P) n) e ∙ s₂ n p ∙ ap (λ v. column (3 * P) eig v g2 n) inv₂
   legs-scaled (suc (suc (suc x))) n h p = absurd (omega arith)
 
-  pub legs-kept : Kept l l₃ P (columnsAt P 3)
-  legs-kept =
-      kept-then (kept-wider P (columnsAt P 3) (omega arith) (omega arith) k₀)
-      (kept-then (kept-wider P (columnsAt P 3) (omega arith) (omega arith) k₁) (kept-wider P (columnsAt P 3) (omega arith) (omega arith) k₂))
+  pub legs-outside : SameOutside l l₃ P (columnsAt P 3)
+  legs-outside =
+      outside-then (outside-wider P (columnsAt P 3) (omega arith) (omega arith) k₀)
+      (outside-then (outside-wider P (columnsAt P 3) (omega arith) (omega arith) k₁) (outside-wider P (columnsAt P 3) (omega arith) (omega arith) k₂))
 
 -- ---- phase factors
 
@@ -64,14 +64,14 @@ module _ (P S : ℕ) (vectors : List Float) (multiplicity : List ℤ) (q : Legs 
   abbrev F : ℕ
   F = columnsAt P 3
 
-  k₀ : Kept l l₁ F (F + 2 * N)
-  k₀ = kept-split F (F + 2 * N) (omega arith) (omega arith) refl w₀
+  k₀ : SameOutside l l₁ F (F + 2 * N)
+  k₀ = outside-split F (F + 2 * N) (omega arith) (omega arith) refl w₀
 
-  k₁ : Kept l₁ l₂ (F + 2 * N) (F + 2 * N + 2 * N)
-  k₁ = kept-split (F + 2 * N) (F + 2 * N + 2 * N) (omega arith) (omega arith) refl w₁
+  k₁ : SameOutside l₁ l₂ (F + 2 * N) (F + 2 * N + 2 * N)
+  k₁ = outside-split (F + 2 * N) (F + 2 * N + 2 * N) (omega arith) (omega arith) refl w₁
 
-  k₂ : Kept l₂ l₃ (F + 2 * N + 2 * N) (F + 2 * N + 2 * N + 2 * N)
-  k₂ = kept-split (F + 2 * N + 2 * N) (F + 2 * N + 2 * N + 2 * N) (omega arith) (omega arith) refl w₂
+  k₂ : SameOutside l₂ l₃ (F + 2 * N + 2 * N) (F + 2 * N + 2 * N + 2 * N)
+  k₂ = outside-split (F + 2 * N + 2 * N) (F + 2 * N + 2 * N + 2 * N) (omega arith) (omega arith) refl w₂
 
   pub legs-factored : (x : ℕ) → x < 3 → numbersIn l₃ (factorsAt P S x) (P * S) (P * S) ≡ phaseFactors P S vectors multiplicity (leg q x)
   unfolding phaseFactors
@@ -86,19 +86,19 @@ module _ (P S : ℕ) (vectors : List Float) (multiplicity : List ℤ) (q : Legs 
       ap (λ o. numbersIn l₃ o N N) e ∙ numbers-wrote w₂
   legs-factored (suc (suc (suc x))) h = absurd (omega arith)
 
-  pub factored-kept : Kept l l₃ F (preAt P S)
-  factored-kept =
-      kept-then (kept-wider F (preAt P S) (omega arith) (omega arith) k₀)
-      (kept-then (kept-wider F (preAt P S) (omega arith) (omega arith) k₁) (kept-wider F (preAt P S) (omega arith) (omega arith) k₂))
+  pub factored-outside : SameOutside l l₃ F (preAt P S)
+  factored-outside =
+      outside-then (outside-wider F (preAt P S) (omega arith) (omega arith) k₀)
+      (outside-then (outside-wider F (preAt P S) (omega arith) (omega arith) k₁) (outside-wider F (preAt P S) (omega arith) (omega arith) k₂))
 
 -- ---- all of it
 
 module _ (P S : ℕ) (masses eig vectors : List Float) (multiplicity : List ℤ) (g : Legs ℕ) (q : Legs (List Float)) {l l₁ l₂ l₃ : List Float} (room : P ≤ length l)
     (r : Wrote l l₁ 0 P (inverseRoot masses))
     (s : (x n : ℕ) → x < 3 → n < 3 * P → columnIn l₂ (columnsAt P x) (3 * P) n ≡ column (3 * P) eig (take P (drop 0 l₁)) (leg g x) n)
-    (ks : Kept l₁ l₂ P (columnsAt P 3))
+    (ks : SameOutside l₁ l₂ P (columnsAt P 3))
     (f : (x : ℕ) → x < 3 → numbersIn l₃ (factorsAt P S x) (P * S) (P * S) ≡ phaseFactors P S vectors multiplicity (leg q x))
-    (kf : Kept l₂ l₃ (columnsAt P 3) (preAt P S)) where
+    (kf : SameOutside l₂ l₃ (columnsAt P 3) (preAt P S)) where
   roots : take P (drop 0 l₁) ≡ inverseRoots P masses
   unfolding inverseRoots
   roots = reals-wrote r (omega arith)
@@ -116,7 +116,7 @@ module _ (P S : ℕ) (masses eig vectors : List Float) (multiplicity : List ℤ)
   pub prepared : Prepared l₃ P S masses eig vectors multiplicity g q
   prepared = record { columns = columns-in; factors = f }
 
-  pub prepared-kept : Kept l l₃ 0 (preAt P S)
-  prepared-kept =
-      kept-then (kept-wrote 0 (preAt P S) (omega arith) (omega arith) r)
-      (kept-then (kept-wider 0 (preAt P S) (omega arith) (omega arith) ks) (kept-wider 0 (preAt P S) (omega arith) (omega arith) kf))
+  pub prepared-outside : SameOutside l l₃ 0 (preAt P S)
+  prepared-outside =
+      outside-then (outside-wrote 0 (preAt P S) (omega arith) (omega arith) r)
+      (outside-then (outside-wider 0 (preAt P S) (omega arith) (omega arith) ks) (outside-wider 0 (preAt P S) (omega arith) (omega arith) kf))

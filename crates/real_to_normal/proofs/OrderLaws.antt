@@ -10,9 +10,9 @@ use Rattle.phonon.specs.Sets.{Legs, Forces}
 use Rattle.phonon.specs.Interaction.{leg}
 use Rattle.phonon.specs.RealToReciprocal.{phaseFactors, preFactorEntry, preFactors, reciprocalFrom}
 use Rattle.planes.specs.Split.{WroteSplit}
-use Rattle.planes.specs.Region.{Kept}
+use Rattle.planes.specs.Region.{SameOutside}
 use Rattle.planes.specs.Layout.{numbersIn, constantsIn}
-use Rattle.planes.proofs.RegionLaws.{kept-then, kept-wider, kept-split}
+use Rattle.planes.proofs.RegionLaws.{outside-then, outside-wider, outside-split}
 use Rattle.planes.proofs.WorkLaws.{numbers-below, numbers-wrote}
 use Rattle.planes.proofs.Products.{row-le}
 use Rattle.real_to_reciprocal.specs.Stored.{regionEnd}
@@ -44,9 +44,9 @@ module _ (P S : ℕ) (a : Anchoring) (c : Forces) (vectors : List Float) (multip
     {g0 g1 g2 : ℕ} (h0 : g0 ≡ factorsAt P S x0) (h1 : g1 ≡ factorsAt P S x1) (h2 : g2 ≡ factorsAt P S x2)
     (r : constantsIn l₂ (constantsAt P S) P ≡ reciprocalFrom P S a c (numbersIn l₁ (preAt P S) P P)
     (record { leg0 = numbersIn l₁ g0 (P * S) (P * S); leg1 = numbersIn l₁ g1 (P * S) (P * S); leg2 = numbersIn l₁ g2 (P * S) (P * S) }))
-    (k : Kept l₁ l₂ (constantsAt P S) (regionEnd (constantsAt P S) P)) where
-  kept₁ : Kept l l₁ (preAt P S) (constantsAt P S)
-  kept₁ = kept-split (preAt P S) (constantsAt P S) (omega arith) (omega arith) refl w
+    (k : SameOutside l₁ l₂ (constantsAt P S) (regionEnd (constantsAt P S) P)) where
+  kept₁ : SameOutside l l₁ (preAt P S) (constantsAt P S)
+  kept₁ = outside-split (preAt P S) (constantsAt P S) (omega arith) (omega arith) refl w
 
   pre-is : numbersIn l₁ (preAt P S) P P ≡ preFactors P vectors multiplicity (c .p2s) (picked q x0 x1 x2)
   unfolding preFactors
@@ -64,5 +64,5 @@ module _ (P S : ℕ) (a : Anchoring) (c : Forces) (vectors : List Float) (multip
       let z = factors-are x2 g2 p2 h2 in
       r ∙ (λ i. reciprocalFrom P S a c (pre-is i) (record { leg0 = u i; leg1 = v i; leg2 = z i }))
 
-  pub order-kept : Kept l l₂ (preAt P S) (scratchAt P S)
-  order-kept = kept-then (kept-wider (preAt P S) (scratchAt P S) (omega arith) (omega arith) kept₁) (kept-wider (preAt P S) (scratchAt P S) (omega arith) (omega arith) k)
+  pub order-outside : SameOutside l l₂ (preAt P S) (scratchAt P S)
+  order-outside = outside-then (outside-wider (preAt P S) (scratchAt P S) (omega arith) (omega arith) kept₁) (outside-wider (preAt P S) (scratchAt P S) (omega arith) (omega arith) k)

@@ -4,8 +4,8 @@ use mathlib.Core.List.{List}
 use Prim.Native.Nat.{ℕ, _+_, _*_, _<_, _≤_}
 use native.Mathlib.Omega.{arith}
 use lib.Ieee.{Float}
-use Rattle.planes.specs.Region.{Kept}
-use Rattle.planes.proofs.RegionLaws.{kept-then, kept-wider}
+use Rattle.planes.specs.Region.{SameOutside}
+use Rattle.planes.proofs.RegionLaws.{outside-then, outside-wider}
 use Rattle.planes.proofs.Products.{row-le}
 use Rattle.real_to_reciprocal.specs.Stored.{regionEnd}
 use Rattle.real_to_normal.specs.Work.{columnsAt, factorsAt, preAt, constantsAt, scratchAt, listingAt, endAt}
@@ -66,12 +66,12 @@ module _ (P S : ℕ) where
   listing-fits e h = omega arith
 
   -- the legs, and then what lies behind them
-  pub kept-legs : {l l₁ l₂ : List Float} → Kept l l₁ 0 (preAt P S) → Kept l₁ l₂ (preAt P S) (endAt P S) → Kept l l₂ 0 (endAt P S)
-  kept-legs k h = kept-then (kept-wider 0 (endAt P S) (omega arith) (omega arith) k) (kept-wider 0 (endAt P S) (omega arith) (omega arith) h)
+  pub outside-legs : {l l₁ l₂ : List Float} → SameOutside l l₁ 0 (preAt P S) → SameOutside l₁ l₂ (preAt P S) (endAt P S) → SameOutside l l₂ 0 (endAt P S)
+  outside-legs k h = outside-then (outside-wider 0 (endAt P S) (omega arith) (omega arith) k) (outside-wider 0 (endAt P S) (omega arith) (omega arith) h)
 
   -- the force constants, and then the scratch and the listing
-  pub kept-listing : {l l₁ l₂ : List Float} → Kept l l₁ (preAt P S) (scratchAt P S) → Kept l₁ l₂ (scratchAt P S) (endAt P S) → Kept l l₂ (preAt P S) (endAt P S)
-  kept-listing k h = kept-then (kept-wider (preAt P S) (endAt P S) (omega arith) (omega arith) k) (kept-wider (preAt P S) (endAt P S) (omega arith) (omega arith) h)
+  pub outside-listing : {l l₁ l₂ : List Float} → SameOutside l l₁ (preAt P S) (scratchAt P S) → SameOutside l₁ l₂ (scratchAt P S) (endAt P S) → SameOutside l l₂ (preAt P S) (endAt P S)
+  outside-listing k h = outside-then (outside-wider (preAt P S) (endAt P S) (omega arith) (omega arith) k) (outside-wider (preAt P S) (endAt P S) (omega arith) (omega arith) h)
 
-  pub kept-scratch : {l l₁ l₂ : List Float} → Kept l l₁ (preAt P S) (scratchAt P S) → Kept l₁ l₂ (scratchAt P S) (listingAt P S) → Kept l l₂ (preAt P S) (endAt P S)
-  kept-scratch k h = kept-listing k (kept-wider (scratchAt P S) (endAt P S) (omega arith) (omega arith) h)
+  pub outside-scratch : {l l₁ l₂ : List Float} → SameOutside l l₁ (preAt P S) (scratchAt P S) → SameOutside l₁ l₂ (scratchAt P S) (listingAt P S) → SameOutside l l₂ (preAt P S) (endAt P S)
+  outside-scratch k h = outside-listing k (outside-wider (scratchAt P S) (endAt P S) (omega arith) (omega arith) h)

@@ -14,7 +14,7 @@ use Rattle.phonon.specs.Tests.{allWithin}
 use Rattle.phonon.specs.Interaction.{orders, leg, exchanged}
 use Rattle.phonon.specs.ReciprocalToNormal.{strength}
 use Rattle.phonon.proofs.Laws.{fold-step, table-ext, table-at}
-use Rattle.planes.specs.Region.{Kept}
+use Rattle.planes.specs.Region.{SameOutside}
 use Rattle.planes.proofs.LegOrders.{orders-lt}
 use Rattle.real_to_normal.specs.Work.{preAt, endAt, picked, reciprocalOf, legIn, bandsOfSlot, slotIn, sixthOf}
 use Rattle.real_to_normal.proofs.SlotLaws.{slot-bands, leg-is}
@@ -39,7 +39,7 @@ module _ (P S : ℕ) (a : Anchoring) (c : Forces) (vectors : List Float) (multip
   abbrev summed : ℕ → ℕ → Float
   summed o m = cond (flagged flags m) f0 (fold o f0 (sixthOf P S a c vectors multiplicity q l frequencies g bands cutoff m))
 
-  pub six-turn : (o : ℕ) {l₁ out out′ : List Float} {order : List ℕ} → o < 6 → Kept l l₁ (preAt P S) (endAt P S) → order ≡ getD orders o []
+  pub six-turn : (o : ℕ) {l₁ out out′ : List Float} {order : List ℕ} → o < 6 → SameOutside l l₁ (preAt P S) (endAt P S) → order ≡ getD orders o []
       → out ≡ table N (summed o)
       → out′ ≡ table N (λ m. cond (flagged flags m) (at out m) (at out m ⊕ strength P (reciprocalOf P S a c vectors multiplicity (picked q (getD order 0 0) (getD order 1 0) (getD order 2 0)))
       (slotIn l₁ P frequencies g bands (getD order 0 0) (getD order 1 0) (getD order 2 0) m) cutoff ⊘ f6))

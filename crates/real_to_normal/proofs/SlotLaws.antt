@@ -14,7 +14,7 @@ use Rattle.phonon.specs.Interaction.{leg}
 use Rattle.phonon.specs.ReciprocalToNormal.{strength}
 use Rattle.phonon.proofs.Laws.{table-ext, pair-lt}
 use Rattle.phonon.proofs.Accepted.{index-below}
-use Rattle.planes.specs.Region.{Kept}
+use Rattle.planes.specs.Region.{SameOutside}
 use Rattle.planes.specs.Layout.{columnIn, phononIn, constantsIn}
 use Rattle.planes.proofs.WorkLaws.{column-below}
 use Rattle.planes.proofs.Products.{row-le}
@@ -44,7 +44,7 @@ slot-bands P bands m p w h zero = index-below (3 * P) bands (omega arith) w (m /
 slot-bands P bands m p w h (suc zero) = j-lt (3 * P) m (omega arith)
 slot-bands P bands m p w h (suc (suc x)) = k-lt (3 * P) m (omega arith)
 
-module _ (P S : ℕ) (frequencies : List Float) (g : Legs ℕ) {l l₁ : List Float} {a b : ℕ} (k : Kept l l₁ a b) (behind : columnsAt P 3 ≤ a) where
+module _ (P S : ℕ) (frequencies : List Float) (g : Legs ℕ) {l l₁ : List Float} {a b : ℕ} (k : SameOutside l l₁ a b) (behind : columnsAt P 3 ≤ a) where
   pub leg-is : (x n : ℕ) (e : ℕ) (fr : List Float) → x < 3 → n < 3 * P → e ≡ columnsAt P x → fr ≡ part (3 * P) (leg g x) frequencies
       → phononIn l₁ e (3 * P) fr n ≡ legIn l P frequencies g x n
   leg-is x n e fr p h ee ef =

@@ -20,8 +20,8 @@ use Rattle.phonon.specs.Interaction.{orders, leg, exchanged, legQ, point, order
 use Rattle.phonon.specs.Limits.{workLength}
 use Rattle.phonon.specs.Doors.{cleared}
 use Rattle.phonon.proofs.Laws.{fold-ext, table-ext, table-at, part-at}
-use Rattle.planes.specs.Region.{Kept}
-use Rattle.planes.proofs.WorkLaws.{drop-kept}
+use Rattle.planes.specs.Region.{SameOutside}
+use Rattle.planes.proofs.WorkLaws.{drop-outside}
 use Rattle.reciprocal_to_normal.specs.Slots.{bOf, jOf, kOf}
 use Rattle.reciprocal_to_normal.proofs.SlotLaws.{slot-of}
 use Rattle.real_to_normal.proofs.AcceptedLaws.{end-fits}
@@ -138,7 +138,7 @@ module _ (t : Triplet) (before : List Float) where
 
 -- ---- the work buffer
 
-pub cleared-is : {w w₁ out : List Float} {n : ℕ} (m : Measures) → 1 ≤ m .atoms → Kept w w₁ 0 (endAt (m .atoms) (m .supercell)) → n ≡ workLength (m .atoms) (m .supercell) → out ≡ replicate n f0 ++ drop n w₁ → out ≡ cleared m w
+pub cleared-is : {w w₁ out : List Float} {n : ℕ} (m : Measures) → 1 ≤ m .atoms → SameOutside w w₁ 0 (endAt (m .atoms) (m .supercell)) → n ≡ workLength (m .atoms) (m .supercell) → out ≡ replicate n f0 ++ drop n w₁ → out ≡ cleared m w
 unfolding cleared
 cleared-is {w} {n = n} m p k e r =
-    r ∙ ap (λ (d : List Float). replicate n f0 ++ d) (drop-kept k n (omega (arith, end-fits (m .atoms) (m .supercell) p, e))) ∙ ap (λ (x : ℕ). replicate x f0 ++ drop x w) e
+    r ∙ ap (λ (d : List Float). replicate n f0 ++ d) (drop-outside k n (omega (arith, end-fits (m .atoms) (m .supercell) p, e))) ∙ ap (λ (x : ℕ). replicate x f0 ++ drop x w) e

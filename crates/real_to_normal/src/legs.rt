@@ -8,7 +8,7 @@ ghost use lib.ListN.{length, take, drop};
 ghost use Rattle.phonon.specs.Interaction.{leg};
 ghost use Rattle.phonon.specs.RealToReciprocal.{phaseFactors};
 ghost use Rattle.phonon.specs.ReciprocalToNormal.{column};
-ghost use Rattle.planes.specs.Region.{Kept};
+ghost use Rattle.planes.specs.Region.{SameOutside};
 ghost use Rattle.planes.specs.Layout.{columnIn, numbersIn};
 ghost use Rattle.real_to_reciprocal.specs.Shape.{Ranged};
 ghost use Rattle.real_to_normal.specs.Work.{columnsAt, factorsAt, preAt, Prepared};
@@ -24,7 +24,7 @@ fn scale_legs(w: &mut [f64], eigenvectors: &[f64], np: usize, g0: usize, g1: usi
         → columnIn (now (w .exit)) (columnsAt np x) (3 * np) n
         ≡ column (3 * np) (now (eigenvectors .entry)) (take np (drop 0 (now (w .entry))))
         (leg (record { leg0 = g0; leg1 = g1; leg2 = g2 }) x) n)
-        × Kept (now (w .entry)) (now (w .exit)) np (columnsAt np 3) ⌝ }
+        × SameOutside (now (w .entry)) (now (w .exit)) np (columnsAt np 3) ⌝ }
 {
     let d = 3 * np * (3 * np);
     let e1 = np + 2 * d;
@@ -50,7 +50,7 @@ fn factor_legs(
         → numbersIn (now (w .exit)) (factorsAt np ns x) (np * ns) (np * ns)
         ≡ phaseFactors np ns (now (vectors .entry)) (now (multiplicity .entry))
         (leg (record { leg0 = now (q0 .entry); leg1 = now (q1 .entry); leg2 = now (q2 .entry) }) x))
-        × Kept (now (w .entry)) (now (w .exit)) (columnsAt np 3) (preAt np ns) ⌝ }
+        × SameOutside (now (w .entry)) (now (w .exit)) (columnsAt np 3) (preAt np ns) ⌝ }
 {
     let d = 3 * np * (3 * np);
     let n = np * ns;
@@ -89,7 +89,7 @@ pub fn prepare(
     ensures { λ _. ⌜ Prepared (now (w .exit)) np ns (now (masses .entry)) (now (eigenvectors .entry)) (now (vectors .entry))
         (now (multiplicity .entry)) (record { leg0 = g0; leg1 = g1; leg2 = g2 })
         (record { leg0 = now (q0 .entry); leg1 = now (q1 .entry); leg2 = now (q2 .entry) })
-        × Kept (now (w .entry)) (now (w .exit)) 0 (preAt np ns) ⌝ }
+        × SameOutside (now (w .entry)) (now (w .exit)) 0 (preAt np ns) ⌝ }
 {
     inverse_roots(w, 0, masses, np);
     scale_legs(w, eigenvectors, np, g0, g1, g2);

@@ -9,7 +9,7 @@ ghost use lib.ListN.{length};
 ghost use Rattle.phonon.specs.Sets.{forcesOf};
 ghost use Rattle.phonon.specs.Interaction.{leg};
 ghost use Rattle.phonon.specs.RealToReciprocal.{phaseFactors};
-ghost use Rattle.planes.specs.Region.{Kept};
+ghost use Rattle.planes.specs.Region.{SameOutside};
 ghost use Rattle.planes.specs.Layout.{numbersIn, constantsIn};
 ghost use Rattle.real_to_reciprocal.specs.Shape.{Anchored, Shaped};
 ghost use Rattle.real_to_normal.specs.Work.{factorsAt, preAt, constantsAt, scratchAt, picked, reciprocalOf};
@@ -78,7 +78,7 @@ pub fn order_constants(
         (forcesOf form (now (p2s .entry)) (now (s2p .entry)) (now (shortest .entry)) (now (nonzero .entry)) (now (constants .entry)))
         (now (vectors .entry)) (now (multiplicity .entry))
         (picked (record { leg0 = now (q0 .entry); leg1 = now (q1 .entry); leg2 = now (q2 .entry) }) x0 x1 x2))
-        × Kept (now (w .entry)) (now (w .exit)) (preAt np ns) (scratchAt np ns) ⌝ }
+        × SameOutside (now (w .entry)) (now (w .exit)) (preAt np ns) (scratchAt np ns) ⌝ }
 {
     let d = 3 * np * (3 * np);
     let n = 2 * (np * ns);

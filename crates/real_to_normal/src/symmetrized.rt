@@ -19,7 +19,7 @@ ghost use Rattle.phonon.specs.Tests.{allWithin};
 ghost use Rattle.phonon.specs.Interaction.{leg};
 ghost use Rattle.phonon.specs.RealToReciprocal.{phaseFactors};
 ghost use Rattle.phonon.specs.ReciprocalToNormal.{strength};
-ghost use Rattle.planes.specs.Region.{Kept};
+ghost use Rattle.planes.specs.Region.{SameOutside};
 ghost use Rattle.planes.specs.Layout.{numbersIn};
 ghost use Rattle.real_to_reciprocal.specs.Shape.{Anchored, Shaped};
 ghost use Rattle.real_to_normal.specs.Work.{factorsAt, preAt, endAt, picked, reciprocalOf, slotIn, sixthOf};
@@ -110,7 +110,7 @@ fn add_order(
         (getD order 1 0) (getD order 2 0)))
         (slotIn (now (w .entry)) np (now (frequencies .entry)) (record { leg0 = g0; leg1 = g1; leg2 = g2 })
         (now (bands .entry)) (getD order 0 0) (getD order 1 0) (getD order 2 0) m) cutoff ⊘ f6)))
-        × Kept (now (w .entry)) (now (w .exit)) (preAt np ns) (endAt np ns) ⌝ }
+        × SameOutside (now (w .entry)) (now (w .exit)) (preAt np ns) (endAt np ns) ⌝ }
 {
     let nb = 3 * np;
     let d = nb * nb;
@@ -199,7 +199,7 @@ pub fn real_to_normal_sym_q(
         (now (vectors .entry)) (now (multiplicity .entry))
         (record { leg0 = now (q0 .entry); leg1 = now (q1 .entry); leg2 = now (q2 .entry) }) (now (w .entry))
         (now (frequencies .entry)) (record { leg0 = g0; leg1 = g1; leg2 = g2 }) (now (bands .entry)) cutoff m))))
-        × Kept (now (w .entry)) (now (w .exit)) (preAt np ns) (endAt np ns) ⌝ }
+        × SameOutside (now (w .entry)) (now (w .exit)) (preAt np ns) (endAt np ns) ⌝ }
 {
     let n = out.len();
     clear(out, n);

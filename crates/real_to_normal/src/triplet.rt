@@ -23,7 +23,7 @@ ghost use Rattle.phonon.specs.Interaction as Interaction;
 ghost use Rattle.phonon.specs.ReciprocalToNormal.{inverseRoots};
 ghost use Rattle.phonon.specs.Refusal.{tripletRefusal};
 ghost use Rattle.phonon.specs.Doors.{cleared};
-ghost use Rattle.planes.specs.Region.{Kept};
+ghost use Rattle.planes.specs.Region.{SameOutside};
 ghost use Rattle.real_to_reciprocal.specs.Shape.{Ranged, Anchored, Shaped};
 ghost use Rattle.real_to_normal.specs.Work.{endAt, reciprocalOf, slotPhonons, slotValue};
 
@@ -83,7 +83,7 @@ fn slots_of(
         (record { frequencies = now (frequencies .entry); eigenvectors = now (eigenvectors .entry) })
         (record { leg0 = g0; leg1 = g1; leg2 = g2 }) (now (bands .entry)) m) cutoff (now (flags .entry))
         (at (now (strengths .entry)) m) m))
-        × Kept (now (work .entry)) (now (work .exit)) 0 (endAt np ns) ⌝ }
+        × SameOutside (now (work .entry)) (now (work .exit)) 0 (endAt np ns) ⌝ }
 {
     prepare(
         work,

@@ -13,9 +13,9 @@ use Rattle.phonon.specs.Sets.{Forces}
 use Rattle.phonon.specs.RealToReciprocal.{pairTaken, pairTerm, element, Factors, over3, plainElement, averagedElement, anchored}
 use Rattle.phonon.proofs.Laws.{fold-ext, ctable-at, pair-lt}
 use Rattle.planes.specs.Split.{split}
-use Rattle.planes.specs.Region.{Kept}
+use Rattle.planes.specs.Region.{SameOutside}
 use Rattle.planes.specs.Layout.{numbersIn}
-use Rattle.planes.proofs.RegionLaws.{split-kept}
+use Rattle.planes.proofs.RegionLaws.{split-outside}
 use Rattle.real_to_reciprocal.specs.Stored.{factorsIn, componentAt}
 
 pub element-ext : (P S : ℕ) (c : Forces) (g : Leg) (p p′ r r′ : ℕ → Complex) (i a b e : ℕ) → ((n : ℕ) → n < P * S → p n ≡ p′ n) → ((n : ℕ) → n < P * S → r n ≡ r′ n) → i < P
@@ -48,19 +48,19 @@ pub record Below (fo po f0 f1 f2 P S : ℕ) : Type 0 where
   pub leg1 : f1 + 2 * (P * S) ≤ fo
   pub leg2 : f2 + 2 * (P * S) ≤ fo
 
-module _ {fo po f0 f1 f2 P S : ℕ} (h : Below fo po f0 f1 f2 P S) {l l₁ : List Float} {b : ℕ} (w : Kept l l₁ fo b) where
-  kept-agree : Agree P S (factorsIn l₁ po f0 f1 f2 P S) (factorsIn l po f0 f1 f2 P S)
-  kept-agree = record {
-    pre = λ k p. split-kept w po P k (omega (arith, h .pre));
-    leg0 = λ n p. split-kept w f0 (P * S) n (omega (arith, h .leg0));
-    leg1 = λ n p. split-kept w f1 (P * S) n (omega (arith, h .leg1));
-    leg2 = λ n p. split-kept w f2 (P * S) n (omega (arith, h .leg2));
+module _ {fo po f0 f1 f2 P S : ℕ} (h : Below fo po f0 f1 f2 P S) {l l₁ : List Float} {b : ℕ} (w : SameOutside l l₁ fo b) where
+  outside-agree : Agree P S (factorsIn l₁ po f0 f1 f2 P S) (factorsIn l po f0 f1 f2 P S)
+  outside-agree = record {
+    pre = λ k p. split-outside w po P k (omega (arith, h .pre));
+    leg0 = λ n p. split-outside w f0 (P * S) n (omega (arith, h .leg0));
+    leg1 = λ n p. split-outside w f1 (P * S) n (omega (arith, h .leg1));
+    leg2 = λ n p. split-outside w f2 (P * S) n (omega (arith, h .leg2));
   }
 
-  pub component-kept : (c : Forces) (a : Anchoring) (al bm cn : ℕ) → al < 3 * P → bm < 3 * P → cn < 3 * P
+  pub component-outside : (c : Forces) (a : Anchoring) (al bm cn : ℕ) → al < 3 * P → bm < 3 * P → cn < 3 * P
       → componentAt S a c (factorsIn l₁ po f0 f1 f2 P S) al bm cn ≡ componentAt S a c (factorsIn l po f0 f1 f2 P S) al bm cn
   unfolding componentAt
-  component-kept c a al bm cn p q r = anchored-ext c (al / 3) (bm / 3) (cn / 3) _ _ _ a kept-agree (omega arith) (omega arith) (omega arith)
+  component-outside c a al bm cn p q r = anchored-ext c (al / 3) (bm / 3) (cn / 3) _ _ _ a outside-agree (omega arith) (omega arith) (omega arith)
 
 -- the factors of a region, as a list
 numbers-at : (l : List Float) (off d n k : ℕ) → k < n → split l off d k ≡ cat (numbersIn l off d n) k

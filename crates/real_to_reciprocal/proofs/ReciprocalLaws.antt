@@ -14,7 +14,7 @@ use Rattle.planes.specs.Split.{split, Cols}
 use Rattle.planes.specs.Layout.{constantAt, constantEntry, constantsIn, numbersIn}
 use Rattle.real_to_reciprocal.specs.Stored.{Box, Stored, factorsIn, componentAt}
 use Rattle.real_to_reciprocal.proofs.StoredLaws.{stored-ext, join0, join1, join2}
-use Rattle.real_to_reciprocal.proofs.FactorLaws.{Below, component-kept, anchored-ext, lists-agree}
+use Rattle.real_to_reciprocal.proofs.FactorLaws.{Below, component-outside, anchored-ext, lists-agree}
 
 -- element e of the block of atoms i, j and k, as an entry of the region
 component-of : (S : ℕ) (a : Anchoring) (c : Forces) (w : Factors) (i j k x y z : ℕ) → Box (3 * i) (3 * i + 3) (3 * j) (3 * j + 3) (3 * k) (3 * k + 3) x y z → (e : ℕ) → e ≡ x % 3 * 9 + y % 3 * 3 + z % 3
@@ -48,7 +48,7 @@ module _ (fo po f0 f1 f2 P S : ℕ) (h : Below fo po f0 f1 f2 P S) (c : Forces) 
       join2 (omega arith) (omega arith) w
       (rw q at (stored-ext (valueIn l) v (λ x y z b. s .col (x % 3 * 9 + y % 3 * 3 + z % 3) (omega arith)
       ∙ component-of S a c (factorsIn l₁ po f0 f1 f2 P S) i j k x y z b (x % 3 * 9 + y % 3 * 3 + z % 3) refl
-      ∙ component-kept h (w .kept) c a x y z (omega (arith, b .leg0 .high)) (omega (arith, b .leg1 .high)) (omega (arith, b .leg2 .high)))))
+      ∙ component-outside h (w .kept) c a x y z (omega (arith, b .leg0 .high)) (omega (arith, b .leg1 .high)) (omega (arith, b .leg2 .high)))))
 
   pub turn-j : {l l₁ l₂ : List Float} (i j : ℕ) → i < P → j < P
       → Stored l l₁ fo P (Box (3 * i) (3 * i + 3) 0 (3 * j) 0 (3 * P)) (valueIn l) → Stored l₁ l₂ fo P (Box (3 * i) (3 * i + 3) (3 * j) (3 * j + 3) 0 (3 * P)) (valueIn l₁)
@@ -56,7 +56,7 @@ module _ (fo po f0 f1 f2 P S : ℕ) (h : Below fo po f0 f1 f2 P S) (c : Forces) 
   turn-j {l} i j pi pj w v =
       let q : 3 * j + 3 ≡ 3 * (j + 1) = omega arith in
       join1 (omega arith) (omega arith) w
-      (rw q at (stored-ext (valueIn l) v (λ x y z b. component-kept h (w .kept) c a x y z (omega (arith, b .leg0 .high)) (omega (arith, b .leg1 .high)) (omega (arith, b .leg2 .high)))))
+      (rw q at (stored-ext (valueIn l) v (λ x y z b. component-outside h (w .kept) c a x y z (omega (arith, b .leg0 .high)) (omega (arith, b .leg1 .high)) (omega (arith, b .leg2 .high)))))
 
   pub turn-i : {l l₁ l₂ : List Float} (i : ℕ) → i < P
       → Stored l l₁ fo P (Box 0 (3 * i) 0 (3 * P) 0 (3 * P)) (valueIn l) → Stored l₁ l₂ fo P (Box (3 * i) (3 * i + 3) 0 (3 * P) 0 (3 * P)) (valueIn l₁)
@@ -64,7 +64,7 @@ module _ (fo po f0 f1 f2 P S : ℕ) (h : Below fo po f0 f1 f2 P S) (c : Forces) 
   turn-i {l} i pi w v =
       let q : 3 * i + 3 ≡ 3 * (i + 1) = omega arith in
       join0 (omega arith) (omega arith) w
-      (rw q at (stored-ext (valueIn l) v (λ x y z b. component-kept h (w .kept) c a x y z (omega (arith, b .leg0 .high)) (omega (arith, b .leg1 .high)) (omega (arith, b .leg2 .high)))))
+      (rw q at (stored-ext (valueIn l) v (λ x y z b. component-outside h (w .kept) c a x y z (omega (arith, b .leg0 .high)) (omega (arith, b .leg1 .high)) (omega (arith, b .leg2 .high)))))
 
   -- entry (x, y, z) of atoms i, j and k, once all is stored
   entry-of : {l l₁ : List Float} → Stored l l₁ fo P (Box 0 (3 * P) 0 (3 * P) 0 (3 * P)) (valueIn l) → (i j k x y z : ℕ) → i < P → j < P → k < P → x < 3 → y < 3 → z < 3

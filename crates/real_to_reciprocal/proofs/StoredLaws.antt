@@ -12,7 +12,7 @@ use Rattle.phonon.specs.Number.{at}
 use Rattle.planes.specs.Split.{split, WroteSplit}
 use Rattle.planes.specs.Layout.{constantAt}
 use Rattle.planes.proofs.SplitLaws.{complex-eq, split-at}
-use Rattle.planes.proofs.RegionLaws.{kept-none, kept-then}
+use Rattle.planes.proofs.RegionLaws.{outside-none, outside-then}
 use Rattle.planes.proofs.Products.{row-le, row-same, place-same}
 use Rattle.real_to_reciprocal.specs.Stored.{Span, Box, Stored}
 
@@ -20,13 +20,13 @@ use Rattle.real_to_reciprocal.specs.Stored.{Span, Box, Stored}
 
 module _ {l : List Float} {fo P : ℕ} {f : ℕ → ℕ → ℕ → Complex} where
   pub stored-none : (In : ℕ → ℕ → ℕ → Type 0) → ((al bm cn : ℕ) → In al bm cn → ⊥) → Stored l l fo P In f
-  stored-none In h = record { kept = kept-none l _ _; inside = λ al bm cn p q r e. absurd (h al bm cn e); other = λ al bm cn p q r n. refl }
+  stored-none In h = record { kept = outside-none l _ _; inside = λ al bm cn p q r e. absurd (h al bm cn e); other = λ al bm cn p q r n. refl }
 
   pub stored-then : {l₁ l₂ : List Float} {D E : ℕ → ℕ → ℕ → Type 0} (G : ℕ → ℕ → ℕ → Type 0) → Stored l l₁ fo P D f → Stored l₁ l₂ fo P E f
       → ((al bm cn : ℕ) → G al bm cn → E al bm cn ⊎ (D al bm cn × (E al bm cn → ⊥))) → ((al bm cn : ℕ) → D al bm cn → G al bm cn) → ((al bm cn : ℕ) → E al bm cn → G al bm cn) → Stored l l₂ fo P G f
   stored-then G w v s d e =
       record {
-        kept = kept-then (w .kept) (v .kept);
+        kept = outside-then (w .kept) (v .kept);
         inside = λ al bm cn p q r g. ⊎-elim
             (λ h. v .inside al bm cn p q r h)
             (λ h. v .other al bm cn p q r (h .1) ∙ w .inside al bm cn p q r (h .0))

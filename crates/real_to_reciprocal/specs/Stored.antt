@@ -8,7 +8,7 @@ use Rattle.phonon.specs.declared.Complex.{Complex}
 use Rattle.phonon.specs.Sets.{Forces}
 use Rattle.phonon.specs.RealToReciprocal.{Factors, anchored}
 use Rattle.planes.specs.Split.{split}
-use Rattle.planes.specs.Region.{Kept}
+use Rattle.planes.specs.Region.{SameOutside}
 use Rattle.planes.specs.Layout.{constantAt}
 
 -- from a to below a′
@@ -28,7 +28,7 @@ regionEnd fo P = fo + 2 * (3 * P * (3 * P) * (3 * P))
 
 -- l′ is l but for the region, in which the entries of the set In are those of f, and the others as in l
 pub record Stored (l l′ : List Float) (fo P : ℕ) (In : ℕ → ℕ → ℕ → Type 0) (f : ℕ → ℕ → ℕ → Complex) : Type 0 where
-  pub kept : Kept l l′ fo (regionEnd fo P)
+  pub kept : SameOutside l l′ fo (regionEnd fo P)
   pub inside : (al bm cn : ℕ) → al < 3 * P → bm < 3 * P → cn < 3 * P → In al bm cn → constantAt l′ fo P al bm cn ≡ f al bm cn
   pub other : (al bm cn : ℕ) → al < 3 * P → bm < 3 * P → cn < 3 * P → (In al bm cn → ⊥) → constantAt l′ fo P al bm cn ≡ constantAt l fo P al bm cn
 

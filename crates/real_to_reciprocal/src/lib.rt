@@ -14,7 +14,7 @@ ghost use Prim.Native.Nat.{_+_, _*_, _≤_};
 ghost use lib.ListN.{length};
 ghost use Rattle.phonon.specs.Sets.{forcesOf};
 ghost use Rattle.phonon.specs.RealToReciprocal.{reciprocalFrom};
-ghost use Rattle.planes.specs.Region.{Kept};
+ghost use Rattle.planes.specs.Region.{SameOutside};
 ghost use Rattle.planes.specs.Layout.{constantsIn, numbersIn};
 ghost use Rattle.real_to_reciprocal.specs.Shape.{Shaped};
 ghost use Rattle.real_to_reciprocal.specs.Stored.{regionEnd};
@@ -54,7 +54,7 @@ pub fn real_to_reciprocal(
           leg1 = numbersIn (now (w .entry)) f1 (np * ns) (np * ns);
           leg2 = numbersIn (now (w .entry)) f2 (np * ns) (np * ns);
         }))
-        × Kept (now (w .entry)) (now (w .exit)) fo (regionEnd fo np) ⌝ }
+        × SameOutside (now (w .entry)) (now (w .exit)) fo (regionEnd fo np) ⌝ }
 {
     let mut first: [u16; 256] = [0; 256];
     let mut later: [u16; 256] = [0; 256];

@@ -10,11 +10,11 @@ use Rattle.phonon.specs.Number.{at}
 use Rattle.phonon.specs.Common.{czero, cat}
 use Rattle.phonon.specs.ReciprocalToNormal.{place, addUnlessZero, contractTurn, contractEntry, contract, dot, rowEntry, rows, amplitude, strengthFrom, strength}
 use Rattle.phonon.proofs.Laws.{fold-ext, ctable-at, div-of, mod-of, pair-lt}
-use Rattle.planes.specs.Region.{Kept}
+use Rattle.planes.specs.Region.{SameOutside}
 use Rattle.planes.specs.Split.{split, WroteSplit, column, strided}
 use Rattle.planes.specs.Layout.{constantsIn, columnIn}
 use Rattle.planes.proofs.SplitLaws.{split-at, split-below}
-use Rattle.planes.proofs.RegionLaws.{split-kept}
+use Rattle.planes.proofs.RegionLaws.{split-outside}
 use Rattle.planes.proofs.LayoutLaws.{column-at, constants-at}
 use Rattle.planes.proofs.Products.{row-le}
 use Rattle.reciprocal_to_normal.specs.Arrays.{contracted, amplitudeFrom}
@@ -68,17 +68,17 @@ module _ (B ro mo e1 e2 k : ℕ) (room1 : e1 + 2 * (B * B) ≤ ro) {l l₁ : Lis
 
 module _ (P fo e0 e1 e2 so n : ℕ) (pn : n < 3 * P)
     (pf : fo + 2 * (3 * P * (3 * P * (3 * P))) ≤ so) (p0 : e0 + 2 * (3 * P * (3 * P)) ≤ so) (p1 : e1 + 2 * (3 * P * (3 * P)) ≤ so) (p2 : e2 + 2 * (3 * P * (3 * P)) ≤ so)
-    {l l₁ l₂ : List Float} {end : ℕ} (u : Kept l l₁ so end)
+    {l l₁ l₂ : List Float} {end : ℕ} (u : SameOutside l l₁ so end)
     (w : WroteSplit l₁ l₂ so (3 * P * (3 * P)) (3 * P * (3 * P)) (λ x. contracted (3 * P) (λ al. split l₁ (fo + 2 * (al * (3 * P * (3 * P)))) (3 * P * (3 * P)) x) (strided l₁ (e0 + n) (3 * P * (3 * P)) (3 * P)))) where
   constant-at : (al bm cn : ℕ) → al < 3 * P → bm < 3 * P → cn < 3 * P
       → split l₁ (fo + 2 * (al * (3 * P * (3 * P)))) (3 * P * (3 * P)) (cn * (3 * P) + bm) ≡ cat (constantsIn l fo P) (place P al bm cn)
   constant-at al bm cn pa pb pc =
       let a = row-le (3 * P * (3 * P)) pa in
       let b = pair-lt pc pb in
-      split-kept u _ _ _ (omega arith) ∙ sym (constants-at P al bm cn pa pb pc l fo)
+      split-outside u _ _ _ (omega arith) ∙ sym (constants-at P al bm cn pa pb pc l fo)
 
   leg-at : (o : ℕ) → o + 2 * (3 * P * (3 * P)) ≤ so → (m i : ℕ) → m < 3 * P → i < 3 * P → split l₁ o (3 * P * (3 * P)) (i * (3 * P) + m) ≡ cat (columnIn l o (3 * P) m) i
-  leg-at o p m i pm h = let q = pair-lt h pm in split-kept u o _ _ (omega arith) ∙ sym (column-at l o (3 * P) m i h)
+  leg-at o p m i pm h = let q = pair-lt h pm in split-outside u o _ _ (omega arith) ∙ sym (column-at l o (3 * P) m i h)
 
   later-at : (o : ℕ) → o + 2 * (3 * P * (3 * P)) ≤ so → (m i : ℕ) → m < 3 * P → i < 3 * P → split l₂ o (3 * P * (3 * P)) (i * (3 * P) + m) ≡ cat (columnIn l o (3 * P) m) i
   later-at o p m i pm h = let q = pair-lt h pm in split-below w o _ _ (omega arith) ∙ leg-at o p m i pm h

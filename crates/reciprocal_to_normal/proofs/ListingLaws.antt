@@ -13,7 +13,7 @@ use Rattle.phonon.specs.Number.{at}
 use Rattle.phonon.specs.ReciprocalToNormal.{strengthFrom}
 use Rattle.phonon.specs.Sets.{slot}
 use Rattle.phonon.proofs.Laws.{div-of, mod-of}
-use Rattle.planes.specs.Region.{Kept}
+use Rattle.planes.specs.Region.{SameOutside}
 use Rattle.reciprocal_to_normal.specs.Arrays.{amplitudeFrom}
 use Rattle.reciprocal_to_normal.specs.Slots.{bOf, jOf, kOf, planeSlot}
 use Rattle.reciprocal_to_normal.specs.Listing.{WroteAbove}
@@ -54,8 +54,8 @@ pub above-to : {l l₁ : List Float} {a b off : ℕ} (n n′ : ℕ) {f : ℕ →
 above-to n n′ e w = rw e at w
 
 -- scratch that changes before
-pub above-kept : {l l₁ l₂ : List Float} {a b off n : ℕ} {f : ℕ → Float} → Kept l l₁ a b → b ≤ off → WroteAbove l₁ l₂ a b off n f → WroteAbove l l₂ a b off n f
-above-kept u h w =
+pub above-outside : {l l₁ l₂ : List Float} {a b off n : ℕ} {f : ℕ → Float} → SameOutside l l₁ a b → b ≤ off → WroteAbove l₁ l₂ a b off n f → WroteAbove l l₂ a b off n f
+above-outside u h w =
     record {
       size = w .size ∙ u .size;
       inside = w .inside;
@@ -74,8 +74,8 @@ above-wider a′ b′ p q w =
       after = w .after;
     }
 
-pub kept-above : {l l′ : List Float} {a b off n : ℕ} {f : ℕ → Float} → WroteAbove l l′ a b off n f → Kept l l′ a (off + n)
-kept-above w = record { size = w .size; before = w .before; after = w .after }
+pub outside-above : {l l′ : List Float} {a b off n : ℕ} {f : ℕ → Float} → WroteAbove l l′ a b off n f → SameOutside l l′ a (off + n)
+outside-above w = record { size = w .size; before = w .before; after = w .after }
 
 -- ---- the bands of a number
 

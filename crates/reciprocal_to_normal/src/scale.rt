@@ -9,7 +9,7 @@ ghost use lib.ListN.{length, take, drop};
 ghost use Rattle.phonon.specs.Common.{scale, cat};
 ghost use Rattle.phonon.specs.ReciprocalToNormal.{inverseRoot, column};
 ghost use Rattle.planes.specs.Split.{WroteSplit};
-ghost use Rattle.planes.specs.Region.{Wrote, Kept};
+ghost use Rattle.planes.specs.Region.{Wrote, SameOutside};
 ghost use Rattle.planes.specs.Layout.{columnIn};
 
 // From io on, the rounded 1.0 over the root of each atom's mass.
@@ -53,7 +53,7 @@ pub fn scale_eigenvectors(
     ensures { λ _. ⌜ ((n : ℕ) → n < 3 * np
         → columnIn (now (w .exit)) eo (3 * np) n ≡ column (3 * np) (now (eigenvectors .entry))
         (take np (drop io (now (w .entry)))) g n)
-        × Kept (now (w .entry)) (now (w .exit)) eo (eo + 2 * (3 * np * (3 * np))) ⌝ }
+        × SameOutside (now (w .entry)) (now (w .exit)) eo (eo + 2 * (3 * np * (3 * np))) ⌝ }
 {
     let nb = 3 * np;
     let d = nb * nb;

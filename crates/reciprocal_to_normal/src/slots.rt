@@ -14,7 +14,7 @@ ghost use Rattle.phonon.specs.Number.{at, index, int, flagged, table};
 ghost use Rattle.phonon.specs.Sets.{slot};
 ghost use Rattle.phonon.specs.Tests.{everyBelow, allWithin};
 ghost use Rattle.phonon.specs.ReciprocalToNormal.{dot, strengthFrom, strength};
-ghost use Rattle.planes.specs.Region.{Kept};
+ghost use Rattle.planes.specs.Region.{SameOutside};
 ghost use Rattle.planes.specs.Split.{split, strided};
 ghost use Rattle.planes.specs.Layout.{constantsIn, phononIn};
 ghost use Rattle.reciprocal_to_normal.specs.Slots.{Visited, jOf, InColumn, InPlane, planeSlot};
@@ -209,7 +209,7 @@ fn fill_pair(
         (planeSlot (3 * np) (split (now (w .entry)) mo (3 * np * (3 * np))) (split (now (w .entry)) e1 (3 * np * (3 * np)))
         (split (now (w .entry)) e2 (3 * np * (3 * np))) (at (now (freqs1 .entry))) (at (now (freqs2 .entry))) x cutoff)
         (length (now (out .entry))) (InColumn (3 * np) b k (3 * np))
-        × Kept (now (w .entry)) (now (w .exit)) ro (ro + 4 * (3 * np)) ⌝ }
+        × SameOutside (now (w .entry)) (now (w .exit)) ro (ro + 4 * (3 * np)) ⌝ }
 {
     let nb = 3 * np;
     let d = nb * nb;
@@ -269,7 +269,7 @@ fn fill_plane(
         (planeSlot (3 * np) (split (now (w .entry)) mo (3 * np * (3 * np))) (split (now (w .entry)) e1 (3 * np * (3 * np)))
         (split (now (w .entry)) e2 (3 * np * (3 * np))) (at (now (freqs1 .entry))) (at (now (freqs2 .entry))) x cutoff)
         (length (now (out .entry))) (InPlane (3 * np) b (3 * np))
-        × Kept (now (w .entry)) (now (w .exit)) ro (ro + 4 * (3 * np)) ⌝ }
+        × SameOutside (now (w .entry)) (now (w .exit)) ro (ro + 4 * (3 * np)) ⌝ }
 {
     let nb = 3 * np;
     for k in 0..nb {
@@ -332,7 +332,7 @@ pub fn reciprocal_to_normal_squared(
           leg1 = phononIn (now (w .entry)) e1 (3 * np) (now (freqs1 .entry)) (n / (3 * np) % (3 * np));
           leg2 = phononIn (now (w .entry)) e2 (3 * np) (now (freqs2 .entry)) (n % (3 * np));
         }) cutoff)))
-        × Kept (now (w .entry)) (now (w .exit)) so (so + 2 * (3 * np * (3 * np)) + 4 * (3 * np)) ⌝ }
+        × SameOutside (now (w .entry)) (now (w .exit)) so (so + 2 * (3 * np * (3 * np)) + 4 * (3 * np)) ⌝ }
 {
     let nb = 3 * np;
     let ro = so + 2 * (nb * nb);

@@ -5,7 +5,7 @@ use borrow.Author.Tests.{not-true, not-false}
 use lib.Seq.{length-take-le}
 use Rattle.carton.proofs.FileLaws.{word-count}
 use Rattle.answer.proofs.TextLaws.{answer-10, answer-11, with-count}
-use Rattle.text.proofs.Laws.{wrote-same}
+use Rattle.text.proofs.Laws.{printed-same}
 use borrow.Author.Needs.{needs}
 use Rattle.answer.proofs.answer.Statement.{statement}
 use Rattle.answer.proofs.answer.Tie as tie
@@ -17,7 +17,7 @@ put-refused-requires : tie.Need-put-refused-requires
 put-refused-requires c κs = search needs
 
 returns : tie.Need-returns
-returns c = with-count (wrote-same (answer-10 _ (sym (c .before .before .before .size-ok .ensures) ∙ not-true _ (c .before .before .if1 .taken))) (c .put-refused .ensures))
+returns c = with-count (printed-same (answer-10 _ (sym (c .before .before .before .size-ok .ensures) ∙ not-true _ (c .before .before .if1 .taken))) (c .put-refused .ensures))
 
 blocks-ok-requires : tie.Need-blocks-ok-requires
 blocks-ok-requires c κs = search needs
@@ -28,7 +28,7 @@ put-refused-requires-2 c κs = search needs
 returns-2 : tie.Need-returns-2
 returns-2 c =
     let size = sym (c .before .before .before .before .before .size-ok .ensures) ∙ not-false _ (c .before .before .before .before .if1 .left) in
-    with-count (wrote-same (answer-11 _ size (sym (c .before .before .before .blocks-ok .ensures) ∙ not-true _ (c .before .before .if2 .taken))) (c .put-refused2 .ensures))
+    with-count (printed-same (answer-11 _ size (sym (c .before .before .before .blocks-ok .ensures) ∙ not-true _ (c .before .before .if2 .taken))) (c .put-refused2 .ensures))
 
 zero-words-requires : tie.Need-zero-words-requires
 zero-words-requires c κs = search needs

@@ -4,7 +4,7 @@ use native.Mathlib.Omega.{arith}
 use Rattle.carton.proofs.FileLaws.{word-count}
 use Rattle.carton.proofs.HeadingLaws.{fitted}
 use Rattle.answer.proofs.TextLaws.{answer-12, answer-read}
-use Rattle.text.proofs.Laws.{wrote-same}
+use Rattle.text.proofs.Laws.{printed-same}
 use mathlib.Core.Path.{sym}
 use borrow.Author.Needs.{needs}
 use Rattle.answer.proofs.blocks_text.Statement.{statement}
@@ -43,7 +43,7 @@ returns : tie.Need-returns
 returns c =
     let d = c .before .before .before .before .before .before .before .before .before .before in
     let q = entry d .pre in
-    wrote-same (answer-12 _ (q .0) (q .1) _ _ (d .read-words .ensures) (c .before .before .before .before .before .before .heading-of .ensures) (c .before .before .before .before .enum-told .given .1)) (c .before .before .put-refused .ensures)
+    printed-same (answer-12 _ (q .0) (q .1) _ _ (d .read-words .ensures) (c .before .before .before .before .before .before .heading-of .ensures) (c .before .before .before .before .enum-told .given .1)) (c .before .before .put-refused .ensures)
 
 heading-text-requires : tie.Need-heading-text-requires
 heading-text-requires c κs =
@@ -63,7 +63,7 @@ returns-2 : tie.Need-returns-2
 returns-2 c =
     let d = c .before .before .before .before .before .before .before .before .before .before .before .before in
     let q = entry d .pre in
-    wrote-same (answer-read _ (q .0) (q .1) _ _ (d .read-words .ensures) (c .before .before .before .before .before .before .before .before .heading-of .ensures) _ (c .before .before .before .before .before .before .read .given .1)) (c .before .before .heading-text .ensures)
+    printed-same (answer-read _ (q .0) (q .1) _ _ (d .read-words .ensures) (c .before .before .before .before .before .before .before .before .heading-of .ensures) _ (c .before .before .before .before .before .before .read .given .1)) (c .before .before .heading-text .ensures)
 
 pub blocks-text-spec : {M : Type 1} → statement M
 blocks-text-spec =

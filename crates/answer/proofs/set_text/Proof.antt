@@ -5,7 +5,7 @@ use native.Mathlib.Omega.{arith}
 use Rattle.answer.proofs.PlaceLaws.{zeros-length, flags-long}
 use Rattle.answer.proofs.AcceptedLaws.{three-atoms, few}
 use Rattle.answer.proofs.TextLaws.{text-accepted, text-refused}
-use Rattle.text.proofs.Laws.{wrote-same}
+use Rattle.text.proofs.Laws.{printed-same}
 use borrow.Author.Needs.{needs}
 use Rattle.answer.proofs.set_text.Statement.{statement}
 use Rattle.answer.proofs.set_text.Tie as tie
@@ -68,7 +68,7 @@ returns c =
     let d = c .before .before .before .before .before .before .before .before .before .before .before .before .before .before .before .before .before .before in
     let a = entry d .args in
     let q = entry d .pre in
-    wrote-same (text-accepted (record { floats = a .floats .now; ints = a .ints .now; bytes = a .bytes .now }) (a .h) _ _ _ (q .3) (q .4) (q .5) _ (d .run-door .ensures) (c .before .before .before .before .before .before .before .before .before .before .enum-told .given .1))
+    printed-same (text-accepted (record { floats = a .floats .now; ints = a .ints .now; bytes = a .bytes .now }) (a .h) _ _ _ (q .3) (q .4) (q .5) _ (d .run-door .ensures) (c .before .before .before .before .before .before .before .before .before .before .enum-told .given .1))
     (c .before .before .put-accepted .ensures)
 
 same-length-5 : tie.Need-same-length-5
@@ -88,7 +88,7 @@ returns-2 c =
     let d = c .before .before .before .before .before .before .before .before .before .before .before .before .before in
     let a = entry d .args in
     let q = entry d .pre in
-    wrote-same (text-refused (record { floats = a .floats .now; ints = a .ints .now; bytes = a .bytes .now }) (a .h) _ _ _ (q .3) (q .4) (q .5) _ (d .run-door .ensures) _ (c .before .before .before .before .before .answer .given .1))
+    printed-same (text-refused (record { floats = a .floats .now; ints = a .ints .now; bytes = a .bytes .now }) (a .h) _ _ _ (q .3) (q .4) (q .5) _ (d .run-door .ensures) _ (c .before .before .before .before .before .answer .given .1))
     (c .before .before .put-refused .ensures)
 
 pub set-text-spec : {M : Type 1} → statement M

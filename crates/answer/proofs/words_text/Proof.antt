@@ -1,7 +1,7 @@
 -- The three columns are those of the words.
 use Rattle.answer.proofs.PlaceLaws.{fitted-same}
 use Rattle.answer.proofs.TextLaws.{columns-same}
-use Rattle.text.proofs.Laws.{wrote-same}
+use Rattle.text.proofs.Laws.{printed-same}
 use mathlib.Core.Path.{sym, _∙_}
 use borrow.Author.Needs.{needs}
 use Rattle.answer.proofs.words_text.Statement.{statement}
@@ -49,7 +49,7 @@ same-length-7 c = search needs
 returns : tie.Need-returns
 returns c =
     let d = c .before .before .before .before .before .before .before .before .before .before .before .before .before .before .before .before .before .before in
-    wrote-same (columns-same _ _ _ _ _ (d .before .before .before .before .before .before .before .read-floats .ensures) (d .before .before .before .read-ints .ensures) (d .read-bytes .ensures))
+    printed-same (columns-same _ _ _ _ _ (d .before .before .before .before .before .before .before .read-floats .ensures) (d .before .before .before .read-ints .ensures) (d .read-bytes .ensures))
     (c .before .before .before .before .before .before .before .before .set-text .ensures)
 
 pub words-text-spec : {M : Type 1} → statement M

@@ -3,7 +3,7 @@ use mathlib.Core.Path.{_≡_, sym, _∙_}
 use Prim.Native.Nat.{ℕ, _+_, _*_, _-_, _≤_}
 use lib.ListN.{length-replicate}
 use Rattle.real_to_reciprocal.specs.Stored.{Box, Stored, factorsIn, componentAt}
-use Rattle.planes.proofs.RegionLaws.{kept-then}
+use Rattle.planes.proofs.RegionLaws.{outside-then}
 use Rattle.real_to_reciprocal.proofs.StoredLaws.{stored-none}
 use Rattle.real_to_reciprocal.proofs.FactorLaws.{Below}
 use Rattle.real_to_reciprocal.proofs.ReciprocalLaws.{turn-k, turn-j, turn-i, all-stored}
@@ -79,7 +79,7 @@ slice-aggregate-block-2 c = sym (c .before .before .before .before .before .befo
 block-requires : tie.Need-block-requires Inv-loop3 μ-loop3 Inv-loop2 μ-loop2 Inv-loop μ-loop
 block-requires c κs =
     let p = c .before .before .before .before .before .before .before .before .before .before .before .before .before .before .before .before .before .before .before .before .pre in
-    let s = kept-then (kept-then (c .before .before .before .before .before .before .before .before .before .loop .inv .1 .kept) (c .before .before .before .before .before .before .before .loop2 .inv .1 .kept)) (c .before .before .before .before .before .loop3 .inv .1 .kept) .size in (
+    let s = outside-then (outside-then (c .before .before .before .before .before .before .before .before .before .loop .inv .1 .kept) (c .before .before .before .before .before .before .before .loop2 .inv .1 .kept)) (c .before .before .before .before .before .loop3 .inv .1 .kept) .size in (
       p .2,
       c .before .before .before .before .before .before .before .before .before .before .before .before .before .before .first-copies .ensures,
       c .before .before .before .before .before .before .before .before .before .before .before .later-copies .ensures,
@@ -99,7 +99,7 @@ slice-aggregate-store-block c = sym (c .before .before .block .ensures .size)
 store-block-requires :
     tie.Need-store-block-requires Inv-loop3 μ-loop3 Inv-loop2 μ-loop2 Inv-loop μ-loop
 store-block-requires c κs =
-    let s = kept-then (kept-then (c .before .before .before .before .before .before .before .before .before .before .before .before .loop .inv .1 .kept) (c .before .before .before .before .before .before .before .before .before .before .loop2 .inv .1 .kept)) (c .before .before .before .before .before .before .before .before .loop3 .inv .1 .kept) .size in
+    let s = outside-then (outside-then (c .before .before .before .before .before .before .before .before .before .before .before .before .loop .inv .1 .kept) (c .before .before .before .before .before .before .before .before .before .before .loop2 .inv .1 .kept)) (c .before .before .before .before .before .before .before .before .loop3 .inv .1 .kept) .size in
     (c .before .before .block .ensures .size, c .before .before .before .before .before .before .before .before .before .before .before .loop-test .taken, c .before .before .before .before .before .before .before .before .before .loop2-test .taken, c .before .before .before .before .before .before .before .loop3-test .taken, omega (arith, s, c .before .before .before .before .before .before .before .before .before .before .before .before .before .before .before .before .before .before .before .before .before .before .before .pre .7))
 
 add-k : tie.Need-add-k Inv-loop3 μ-loop3 Inv-loop2 μ-loop2 Inv-loop μ-loop

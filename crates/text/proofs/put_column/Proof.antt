@@ -3,21 +3,21 @@ use native.Mathlib.Omega.{arith}
 use Prim.Native.Nat.{_≤_, _-_}
 use mathlib.Core.Path.{_≡_, refl}
 use lib.ListN.{length}
-use Rattle.text.specs.Wrote.{Wrote}
+use Rattle.text.specs.Printed.{Printed}
 use Rattle.text.specs.Lines.{linesBelow, slotLines, columnLines}
-use Rattle.text.proofs.Laws.{lines-more, room-line, wrote-none}
+use Rattle.text.proofs.Laws.{lines-more, room-line, printed-none}
 use Rattle.text.proofs.put_column.Statement.{statement}
 use Rattle.text.proofs.put_column.Tie as tie
 
 abbrev Inv-loop : tie.InvT-loop
-Inv-loop text₀ at b k bands flags strengths next₀ j₀ text next j = (j ≤ bands) × ((length text ≡ length text₀) × Wrote text₀ at (linesBelow j (λ x. slotLines bands flags strengths b x k)) text next)
+Inv-loop text₀ at b k bands flags strengths next₀ j₀ text next j = (j ≤ bands) × ((length text ≡ length text₀) × Printed text₀ at (linesBelow j (λ x. slotLines bands flags strengths b x k)) text next)
 
 abbrev μ-loop : tie.MeasureT-loop
 μ-loop text₀ at b k bands flags strengths next₀ j₀ text next j = bands - j
 
 loop-holds : tie.Need-loop-holds Inv-loop μ-loop
 unfolding linesBelow
-loop-holds c = (omega arith, (refl, wrote-none _ _))
+loop-holds c = (omega arith, (refl, printed-none _ _))
 
 put-unflagged-requires : tie.Need-put-unflagged-requires Inv-loop μ-loop
 unfolding columnLines

@@ -1,13 +1,13 @@
 -- The sizes are bounded, so no sum wraps.
 use mathlib.Core.Path.{refl}
 use Rattle.carton.specs.Heading.{placesWith}
-use Rattle.carton.proofs.MeasureLaws.{modest, Sized, sized}
+use Rattle.carton.proofs.MeasureLaws.{small-sizes, Sized, sized}
 use native.Mathlib.Omega.{arith}
 use Rattle.carton.proofs.heading.places_of.Statement.{statement}
 use Rattle.carton.proofs.heading.places_of.Tie as tie
 
 sizes-of-requires : tie.Need-sizes-of-requires
-sizes-of-requires c κs = modest _ (c .pre)
+sizes-of-requires c κs = small-sizes _ (c .pre)
 
 bounded : (c : tie.After-sizes-of) → Sized (c .before .args .m) (c .sizes-of .result)
 bounded c = sized (c .before .args .m) (c .before .args .form) (c .sizes-of .result) (c .before .pre) (c .sizes-of .ensures)

@@ -6,7 +6,7 @@ use Rattle.carton.specs.Most.{mostWork}
 use lib.ListN.{length}
 use Rattle.carton.specs.Heading.{wordsMatch}
 use Rattle.carton.specs.Fitted.{Placed}
-use Rattle.carton.proofs.MeasureLaws.{modest, too-few, placed}
+use Rattle.carton.proofs.MeasureLaws.{small-sizes, too-few, placed}
 use Rattle.carton.proofs.HeadingLaws.{rest}
 use native.Mathlib.Omega.{arith}
 use borrow.Author.Needs.{needs}
@@ -28,7 +28,7 @@ unfolding wordsMatch
 returns-2 c = rw (ne-eqb _ _ (c .if2 .taken)) refl
 
 work-length-requires : tie.Need-work-length-requires
-work-length-requires c κs = let h = modest _ (c .before .before .before .pre .1) in (h .atoms, h .supercell)
+work-length-requires c κs = let h = small-sizes _ (c .before .before .before .pre .1) in (h .atoms, h .supercell)
 
 returns-3 : tie.Need-returns-3
 unfolding wordsMatch

@@ -4,7 +4,7 @@ use mathlib.Core.Bool.{true, false}
 use mathlib.Core.Path.{_≡_, refl, sym, _∙_}
 use Rattle.phonon.specs.Refusal.{measuresOk}
 use Rattle.checks.specs.Answers.{measuredOf}
-use Rattle.checks.proofs.MeasureLaws.{modest}
+use Rattle.checks.proofs.MeasureLaws.{small}
 use Rattle.checks.proofs.measures.check_measures.Statement.{statement}
 use Rattle.checks.proofs.measures.check_measures.Tie as tie
 
@@ -12,7 +12,7 @@ measures-ok-requires : tie.Need-measures-ok-requires
 measures-ok-requires c κs = search needs
 
 sizes-of-requires : tie.Need-sizes-of-requires
-sizes-of-requires c κs = modest _ (sym (c .before .measures-ok .ensures) ∙ c .if1 .taken)
+sizes-of-requires c κs = small _ (sym (c .before .measures-ok .ensures) ∙ c .if1 .taken)
 
 returns : tie.Need-returns
 unfolding measuredOf

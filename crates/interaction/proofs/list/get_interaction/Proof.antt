@@ -6,7 +6,7 @@ use Rattle.phonon.specs.Sets.{ListSet}
 use Rattle.phonon.specs.Limits.{sizesOf}
 use Rattle.phonon.specs.Refusal.{listRefusal}
 use Rattle.phonon.specs.Doors.{listOutcome}
-use Rattle.checks.proofs.MeasureLaws.{modest}
+use Rattle.checks.proofs.MeasureLaws.{small}
 use Rattle.checks.proofs.AnswerLaws.{passes}
 use Rattle.interaction.proofs.DoorLaws.{list-refused, list-accepted}
 use Rattle.interaction.proofs.ListLaws.{list-facts}
@@ -66,7 +66,7 @@ passed : (c : tie.After-known-told) → listRefusal (handed (start c) (c .before
 passed c = ap (λ m. listRefusal (handed (start c) m)) (told c .1) ∙ told c .0
 
 sizes-of-requires : tie.Need-sizes-of-requires
-sizes-of-requires c κs = modest _ (list-facts _ (passed c) .measures)
+sizes-of-requires c κs = small _ (list-facts _ (passed c) .measures)
 
 work-list-requires : tie.Need-work-list-requires
 unfolding sizesOf

@@ -2,7 +2,7 @@
 use mathlib.Core.List.{List}
 use lib.Ieee.{Float}
 use Rattle.phonon.specs.Sets.{Legs}
-use Rattle.real_to_normal.proofs.LegLaws.{legs-factored, factored-kept}
+use Rattle.real_to_normal.proofs.LegLaws.{legs-factored, factored-outside}
 use native.Mathlib.Omega.{arith}
 use borrow.Author.Needs.{needs}
 use Rattle.real_to_normal.proofs.legs.factor_legs.Statement.{statement}
@@ -64,7 +64,7 @@ returns c =
     let w₀ = w1 .phase-factors .ensures in
     let w₁ = w2 .phase-factors2 .ensures in
     let w₂ = w3 .phase-factors3 .ensures in
-    (legs-factored (a .np) (a .ns) (a .vectors .now) (a .multiplicity .now) q w₀ w₁ w₂, factored-kept (a .np) (a .ns) (a .vectors .now) (a .multiplicity .now) q w₀ w₁ w₂)
+    (legs-factored (a .np) (a .ns) (a .vectors .now) (a .multiplicity .now) q w₀ w₁ w₂, factored-outside (a .np) (a .ns) (a .vectors .now) (a .multiplicity .now) q w₀ w₁ w₂)
 
 pub factor-legs-spec : {M : Type 1} → statement M
 factor-legs-spec =

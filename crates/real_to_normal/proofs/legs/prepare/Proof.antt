@@ -4,7 +4,7 @@ use lib.Ieee.{Float}
 use Rattle.phonon.specs.Sets.{Legs}
 use Prim.Native.Nat.{ℕ, _≤_}
 use lib.ListN.{length}
-use Rattle.real_to_normal.proofs.LegLaws.{prepared, prepared-kept}
+use Rattle.real_to_normal.proofs.LegLaws.{prepared, prepared-outside}
 use native.Mathlib.Omega.{arith}
 use borrow.Author.Needs.{needs}
 use Rattle.real_to_normal.proofs.legs.prepare.Statement.{statement}
@@ -36,7 +36,7 @@ returns c =
     let s = w2 .scale-legs .ensures in
     let f = w3 .factor-legs .ensures in (
       prepared (a .np) (a .ns) (a .masses .now) (a .eigenvectors .now) (a .vectors .now) (a .multiplicity .now) g q room r (s .0) (s .1) (f .0) (f .1),
-      prepared-kept (a .np) (a .ns) (a .masses .now) (a .eigenvectors .now) (a .vectors .now) (a .multiplicity .now) g q room r (s .0) (s .1) (f .0) (f .1),
+      prepared-outside (a .np) (a .ns) (a .masses .now) (a .eigenvectors .now) (a .vectors .now) (a .multiplicity .now) g q room r (s .0) (s .1) (f .0) (f .1),
     )
 
 pub prepare-spec : {M : Type 1} → statement M

@@ -3,7 +3,7 @@ use mathlib.Core.List.{List}
 use lib.Ieee.{Float}
 use Rattle.phonon.specs.Sets.{Legs, Forces}
 use Rattle.real_to_normal.proofs.PlaceLaws.{factors-end, pre-end, pre-fits, region-fits}
-use Rattle.real_to_normal.proofs.OrderLaws.{order-is, order-kept}
+use Rattle.real_to_normal.proofs.OrderLaws.{order-is, order-outside}
 use borrow.Author.Needs.{needs}
 use Rattle.real_to_normal.proofs.order.order_constants.Statement.{statement}
 use Rattle.real_to_normal.proofs.order.order_constants.Tie as tie
@@ -107,7 +107,7 @@ returns c =
     let h2 = legs .leg-at3 .ensures in
     let r = done .real-to-reciprocal .ensures in (
       order-is (a .np) (a .ns) (a .anchoring) forces (a .vectors .now) (a .multiplicity .now) q (a .x0) (a .x1) (a .x2) (p .0 .2) (p .0 .3) (p .0 .4) e0 e1 e2 (p .1) (wrote .pre-phase-factors .ensures) h0 h1 h2 (r .0) (r .1),
-      order-kept (a .np) (a .ns) (a .anchoring) forces (a .vectors .now) (a .multiplicity .now) q (a .x0) (a .x1) (a .x2) (p .0 .2) (p .0 .3) (p .0 .4) e0 e1 e2 (p .1) (wrote .pre-phase-factors .ensures) h0 h1 h2 (r .0) (r .1),
+      order-outside (a .np) (a .ns) (a .anchoring) forces (a .vectors .now) (a .multiplicity .now) q (a .x0) (a .x1) (a .x2) (p .0 .2) (p .0 .3) (p .0 .4) e0 e1 e2 (p .1) (wrote .pre-phase-factors .ensures) h0 h1 h2 (r .0) (r .1),
     )
 
 pub order-constants-spec : {M : Type 1} → statement M

@@ -2,7 +2,7 @@
 use Prim.Native.Nat.{ℕ}
 use Rattle.phonon.specs.Sets.{Legs}
 use Rattle.real_to_normal.specs.Work.{constantsAt}
-use Rattle.real_to_normal.proofs.PlaceLaws.{few, same-le, first, second, third, columns-end, columns-pre, constants-end, constants-fit, scratch-fits, kept-scratch}
+use Rattle.real_to_normal.proofs.PlaceLaws.{few, same-le, first, second, third, columns-end, columns-pre, constants-end, constants-fit, scratch-fits, outside-scratch}
 use Rattle.real_to_normal.proofs.SlotLaws.{plain-is}
 use borrow.Author.Needs.{needs}
 use Rattle.real_to_normal.proofs.plain.real_to_normal.Statement.{statement}
@@ -125,7 +125,7 @@ returns c =
     let r = done .reciprocal-to-normal-squared .ensures in (
       plain-is (a .np) (a .ns) (a .frequencies .now) g (o .1) (columns-pre (a .np) (a .ns)) (a .bands .now) (a .flags .now) (a .out .now) _ (a .cutoff) (constantsAt (a .np) (a .ns)) (p .0 .0) (p .1 .1 .5) (o .0)
           (legs .before .before .leg-at .ensures) (legs .before .leg-at2 .ensures) (legs .leg-at3 .ensures) (freq .before .before .leg-frequencies .ensures .0) (freq .before .leg-frequencies2 .ensures .0) (freq .leg-frequencies3 .ensures .0) (r .0),
-      kept-scratch (a .np) (a .ns) (o .1) (r .1),
+      outside-scratch (a .np) (a .ns) (o .1) (r .1),
     )
 
 pub real-to-normal-spec : {M : Type 1} → statement M

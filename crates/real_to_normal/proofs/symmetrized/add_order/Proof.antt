@@ -1,9 +1,9 @@
 -- The full listing of one order, and a sixth of it gathered into the slots.
 use Prim.Native.Nat.{ℕ}
 use Rattle.phonon.specs.Sets.{Legs}
-use Rattle.reciprocal_to_normal.proofs.ListingLaws.{kept-above}
+use Rattle.reciprocal_to_normal.proofs.ListingLaws.{outside-above}
 use Rattle.real_to_normal.specs.Work.{constantsAt, scratchAt, listingAt}
-use Rattle.real_to_normal.proofs.PlaceLaws.{few, same-le, columns-end, columns-pre, constants-end, scratch-end, constants-fit, listing-fits, kept-listing}
+use Rattle.real_to_normal.proofs.PlaceLaws.{few, same-le, columns-end, columns-pre, constants-end, scratch-end, constants-fit, listing-fits, outside-listing}
 use Rattle.real_to_normal.proofs.SlotLaws.{order-gathered}
 use borrow.Author.Needs.{needs}
 use Rattle.real_to_normal.proofs.symmetrized.add_order.Statement.{statement}
@@ -162,7 +162,7 @@ returns c =
     let f = full .full-strengths .ensures in (
       order-gathered (a .np) (a .ns) (a .frequencies .now) g (o .1) (columns-pre (a .np) (a .ns)) (a .t4) (a .bands .now) (a .flags .now) (a .out .now) _ (a .cutoff) (constantsAt (a .np) (a .ns)) (scratchAt (a .np) (a .ns)) (listingAt (a .np) (a .ns)) (p .0 .0) (p .1 .1 .5) (o .0) (p .1 .1 .6) (p .1 .1 .7) (p .1 .1 .8)
           (legs .before .before .leg-at .ensures) (legs .before .leg-at2 .ensures) (legs .leg-at3 .ensures) (freq .before .before .frequencies-of .ensures .0) (freq .before .frequencies-of2 .ensures .0) (freq .frequencies-of3 .ensures .0) f (done .gather-sixth .ensures),
-      kept-listing (a .np) (a .ns) (o .1) (kept-above f),
+      outside-listing (a .np) (a .ns) (o .1) (outside-above f),
     )
 
 pub add-order-spec : {M : Type 1} → statement M

@@ -1,6 +1,6 @@
 -- After o turns each slot that is not flagged holds the first o sixths, summed in turn.
 use Rattle.phonon.proofs.Laws.{table-length}
-use Rattle.planes.proofs.RegionLaws.{kept-none, kept-then}
+use Rattle.planes.proofs.RegionLaws.{outside-none, outside-then}
 use Rattle.planes.proofs.WorkLaws.{numbers-below}
 use Rattle.planes.proofs.Products.{row-le}
 use Rattle.planes.proofs.LegOrders.{orders-lt}
@@ -14,7 +14,7 @@ use lib.Ieee.{Float}
 use mathlib.Core.List.{List}
 use Rattle.phonon.specs.Number.{f0, flagged, fold, table}
 use Rattle.phonon.specs.Sets.{Forces, Legs}
-use Rattle.planes.specs.Region.{Kept}
+use Rattle.planes.specs.Region.{SameOutside}
 use Rattle.real_to_normal.specs.Work.{preAt, endAt, sixthOf}
 use native.Mathlib.Omega.{arith}
 use Rattle.real_to_normal.proofs.symmetrized.real_to_normal_sym_q.Statement.{statement}
@@ -24,7 +24,7 @@ abbrev Inv-loop : tie.InvT-loop
 Inv-loop out₀ flags w₀ q0 q1 q2 form anchoring vectors multiplicity p2s s2p shortest nonzero constants frequencies g0 g1 g2 bands np ns cutoff n o₀ out w o =
     (o ≤ 6)
     × (out ≡ table (length bands * (3 * np) * (3 * np)) (λ m. cond (flagged flags m) f0 (fold o f0 (sixthOf np ns anchoring (record { form = form; p2s = p2s; s2p = s2p; shortest = shortest; nonzero = nonzero; constants = constants }) vectors multiplicity (record { leg0 = q0; leg1 = q1; leg2 = q2 }) w₀ frequencies (record { leg0 = g0; leg1 = g1; leg2 = g2 }) bands cutoff m))))
-    × Kept w₀ w (preAt np ns) (endAt np ns)
+    × SameOutside w₀ w (preAt np ns) (endAt np ns)
 
 abbrev μ-loop : tie.MeasureT-loop
 μ-loop out₀ flags w₀ q0 q1 q2 form anchoring vectors multiplicity p2s s2p shortest nonzero constants frequencies g0 g1 g2 bands np ns cutoff n o₀ out w o =
@@ -41,7 +41,7 @@ loop-holds c =
     let q : Legs (List Float) = record { leg0 = a .q0 .now; leg1 = a .q1 .now; leg2 = a .q2 .now } in
     let g : Legs ℕ = record { leg0 = a .g0; leg1 = a .g1; leg2 = a .g2 } in
     let p = start .pre in
-    (omega arith, c .before .before .clear .ensures ∙ clear-all _ (a .out .now) refl ∙ six-none (a .np) (a .ns) (a .anchoring) forces (a .vectors .now) (a .multiplicity .now) q (a .w .now) (a .frequencies .now) g (a .bands .now) (a .cutoff) (a .flags .now) (p .0 .0) (p .1 .1 .5) _ (p .1 .1 .3), kept-none _ _ _)
+    (omega arith, c .before .before .clear .ensures ∙ clear-all _ (a .out .now) refl ∙ six-none (a .np) (a .ns) (a .anchoring) forces (a .vectors .now) (a .multiplicity .now) q (a .w .now) (a .frequencies .now) g (a .bands .now) (a .cutoff) (a .flags .now) (p .0 .0) (p .1 .1 .5) _ (p .1 .1 .3), outside-none _ _ _)
 
 order-at-requires : tie.Need-order-at-requires Inv-loop μ-loop
 order-at-requires c κs = omega arith
@@ -80,7 +80,7 @@ loop-again c =
     let p = start .pre in
     let less : loop .o < 6 = omega (arith, c .before .before .before .before .before .before .before .before .loop-test .taken) in
     let r = add .add-order .ensures in
-    (omega arith, six-turn (a .np) (a .ns) (a .anchoring) forces (a .vectors .now) (a .multiplicity .now) q (a .w .now) (a .frequencies .now) g (a .bands .now) (a .cutoff) (a .flags .now) (p .0 .0) (p .1 .1 .5) (loop .o) less (loop .inv .2) (add .before .order-at .ensures) (loop .inv .1) (r .0), kept-then (loop .inv .2) (r .1))
+    (omega arith, six-turn (a .np) (a .ns) (a .anchoring) forces (a .vectors .now) (a .multiplicity .now) q (a .w .now) (a .frequencies .now) g (a .bands .now) (a .cutoff) (a .flags .now) (p .0 .0) (p .1 .1 .5) (loop .o) less (loop .inv .2) (add .before .order-at .ensures) (loop .inv .1) (r .0), outside-then (loop .inv .2) (r .1))
 
 same-length : tie.Need-same-length Inv-loop μ-loop
 same-length c =

@@ -3,7 +3,7 @@ use Prim.Native.Nat.{ℕ}
 use mathlib.Core.List.{List}
 use lib.Ieee.{Float}
 use Rattle.phonon.specs.Sets.{Legs, Forces}
-use Rattle.real_to_normal.proofs.PlaceLaws.{few, legs-fit, listing-fits, kept-legs}
+use Rattle.real_to_normal.proofs.PlaceLaws.{few, legs-fit, listing-fits, outside-legs}
 use Rattle.real_to_normal.proofs.TripletLaws.{off-values, six-values}
 use borrow.Author.Needs.{needs}
 use Rattle.real_to_normal.proofs.triplet.slots_of.Statement.{statement}
@@ -54,7 +54,7 @@ returns c =
     let r = done .real-to-normal .ensures in
     let told = done .before .before .before .enum-told .given .1 in (
       off-values (a .np) (a .ns) (a .masses .now) (a .eigenvectors .now) (a .vectors .now) (a .frequencies .now) (a .multiplicity .now) g q (prep .0) (a .anchoring) forces (a .bands .now) (a .cutoff) (a .flags .now) (a .strengths .now) (p .0 .0) (p .1 .1 .5) (a .symmetry) told (r .0),
-      kept-legs (a .np) (a .ns) (prep .1) (r .1),
+      outside-legs (a .np) (a .ns) (prep .1) (r .1),
     )
 
 same-length-3 : tie.Need-same-length-3
@@ -76,7 +76,7 @@ returns-2 c =
     let r = done .real-to-normal-sym-q .ensures in
     let told = done .before .before .before .enum-told2 .given .1 in (
       six-values (a .np) (a .ns) (a .masses .now) (a .eigenvectors .now) (a .vectors .now) (a .frequencies .now) (a .multiplicity .now) g q (prep .0) (a .anchoring) forces (a .bands .now) (a .cutoff) (a .flags .now) (a .strengths .now) (p .0 .0) (p .1 .1 .5) (a .symmetry) told (r .0),
-      kept-legs (a .np) (a .ns) (prep .1) (r .1),
+      outside-legs (a .np) (a .ns) (prep .1) (r .1),
     )
 
 pub slots-of-spec : {M : Type 1} → statement M

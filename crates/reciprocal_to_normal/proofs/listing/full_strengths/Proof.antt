@@ -3,12 +3,12 @@ use mathlib.Core.Path.{_≡_, refl, sym, _∙_}
 use Prim.Native.Nat.{_+_, _*_, _-_, _<_, _≤_}
 use native.Mathlib.Nat.{mul-le-mul, add-mul, zero-mul}
 use Rattle.phonon.specs.Number.{at}
-use Rattle.planes.proofs.RegionLaws.{kept-split}
+use Rattle.planes.proofs.RegionLaws.{outside-split}
 use Rattle.planes.proofs.Products.{row-le}
 use Rattle.reciprocal_to_normal.specs.Slots.{bOf, jOf, kOf, slotStrength}
 use Rattle.reciprocal_to_normal.specs.Listing.{WroteAbove}
 use Rattle.reciprocal_to_normal.proofs.AmplitudeLaws.{plane-is}
-use Rattle.reciprocal_to_normal.proofs.ListingLaws.{above-none, above-append, above-to, above-kept, above-wider, kept-above, plane-b, j-lt-of, k-lt-of, plane-at}
+use Rattle.reciprocal_to_normal.proofs.ListingLaws.{above-none, above-append, above-to, above-outside, above-wider, outside-above, plane-b, j-lt-of, k-lt-of, plane-at}
 use native.Mathlib.Omega.{arith}
 use Rattle.reciprocal_to_normal.proofs.listing.full_strengths.Statement.{statement}
 use Rattle.reciprocal_to_normal.proofs.listing.full_strengths.Tie as tie
@@ -90,10 +90,10 @@ loop-again c = let s = c .before .before .before .before .before .before .before
       omega (arith, pb),
       above-to (b * (3 * a .np * (3 * a .np)) + (3 * a .np * (3 * a .np))) ((b + 1) * (3 * a .np * (3 * a .np))) (omega (arith, add-mul b 1 (3 * a .np * (3 * a .np))))
           (above-append inv
-          (above-kept (kept-split (a .so) end (omega arith) (omega arith) refl w) (omega (arith, room .4)) (above-wider (a .so) end (omega arith) (omega arith) (c .before .before .list-plane .ensures)))
+          (above-outside (outside-split (a .so) end (omega arith) (omega arith) refl w) (omega (arith, room .4)) (above-wider (a .so) end (omega arith) (omega arith) (c .before .before .list-plane .ensures)))
           (room .4)
           (λ t pt. plane-at (3 * a .np) b t pt _ _ _ _ _ _ _
-          ∙ plane-is (a .np) (a .fo) (a .e0) (a .e1) (a .e2) (a .so) b pb (room .0) (room .1) (room .2) (room .3) (kept-above inv) w
+          ∙ plane-is (a .np) (a .fo) (a .e0) (a .e1) (a .e2) (a .so) b pb (room .0) (room .1) (room .2) (room .3) (outside-above inv) w
           (a .freqs0 .now) (a .freqs1 .now) (a .freqs2 .now) (λ i. i) (a .cutoff) b refl (b * (3 * a .np * (3 * a .np)) + t) (plane-b (3 * a .np) b t pt) (j-lt-of (3 * a .np) b t pt) (k-lt-of (3 * a .np) b t pt))),
     )
 

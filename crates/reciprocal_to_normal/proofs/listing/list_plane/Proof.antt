@@ -5,12 +5,12 @@ use native.Mathlib.Nat.{add-mul, zero-mul}
 use Rattle.phonon.specs.Number.{at}
 use Rattle.phonon.specs.ReciprocalToNormal.{strengthFrom}
 use Rattle.planes.specs.Split.{split}
-use Rattle.planes.proofs.RegionLaws.{split-kept}
+use Rattle.planes.proofs.RegionLaws.{split-outside}
 use Rattle.planes.proofs.Products.{row-le}
 use Rattle.reciprocal_to_normal.specs.Slots.{planeSlot}
 use Rattle.reciprocal_to_normal.specs.Listing.{WroteAbove}
 use Rattle.reciprocal_to_normal.proofs.AmplitudeLaws.{amplitude-ext}
-use Rattle.reciprocal_to_normal.proofs.ListingLaws.{above-none, above-append, above-to, kept-above, row-is}
+use Rattle.reciprocal_to_normal.proofs.ListingLaws.{above-none, above-append, above-to, outside-above, row-is}
 use native.Mathlib.Omega.{arith}
 use Rattle.reciprocal_to_normal.proofs.listing.list_plane.Statement.{statement}
 use Rattle.reciprocal_to_normal.proofs.listing.list_plane.Tie as tie
@@ -62,11 +62,11 @@ loop-again c = let s = c .before .before .before .before .before .before .before
     let j = c .before .before .before .before .before .before .loop .j in
     let pj : j < (3 * a .np) = c .before .before .before .before .before .loop-test .taken in
     let room = s .pre .1 in
-    let kept = kept-above inv in (
+    let kept = outside-above inv in (
       omega (arith, pj),
       above-to (j * (3 * a .np) + (3 * a .np)) ((j + 1) * (3 * a .np)) (omega (arith, add-mul j 1 (3 * a .np)))
           (above-append inv (c .before .before .list-row .ensures) (room .3)
-          (λ k pk. ap (λ y. strengthFrom (a .cutoff) y (a .x) (at (a .freqs1 .now) j) (at (a .freqs2 .now) k)) (amplitude-ext (3 * a .np) (λ i h. split-kept kept (a .mo) (3 * a .np * (3 * a .np)) i (omega (arith, room .0))) (λ i h. split-kept kept (a .e1) (3 * a .np * (3 * a .np)) i (omega (arith, room .1))) (λ i h. split-kept kept (a .e2) (3 * a .np * (3 * a .np)) i (omega (arith, room .2))) j k pj pk)
+          (λ k pk. ap (λ y. strengthFrom (a .cutoff) y (a .x) (at (a .freqs1 .now) j) (at (a .freqs2 .now) k)) (amplitude-ext (3 * a .np) (λ i h. split-outside kept (a .mo) (3 * a .np * (3 * a .np)) i (omega (arith, room .0))) (λ i h. split-outside kept (a .e1) (3 * a .np * (3 * a .np)) i (omega (arith, room .1))) (λ i h. split-outside kept (a .e2) (3 * a .np * (3 * a .np)) i (omega (arith, room .2))) j k pj pk)
           ∙ row-is (3 * a .np) pj pk (split (a .w .now) (a .mo) (3 * a .np * (3 * a .np))) (split (a .w .now) (a .e1) (3 * a .np * (3 * a .np))) (split (a .w .now) (a .e2) (3 * a .np * (3 * a .np))) (at (a .freqs1 .now)) (at (a .freqs2 .now)) (a .x) (a .cutoff))),
     )
 

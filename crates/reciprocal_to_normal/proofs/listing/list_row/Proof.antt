@@ -4,11 +4,11 @@ use Prim.Native.Nat.{_+_, _*_, _-_, _≤_}
 use Rattle.phonon.specs.Number.{at}
 use Rattle.phonon.specs.ReciprocalToNormal.{strengthFrom}
 use Rattle.planes.specs.Split.{split}
-use Rattle.planes.proofs.RegionLaws.{split-kept}
+use Rattle.planes.proofs.RegionLaws.{split-outside}
 use Rattle.reciprocal_to_normal.specs.Arrays.{amplitudeFrom}
 use Rattle.reciprocal_to_normal.specs.Listing.{WroteAbove}
 use Rattle.reciprocal_to_normal.proofs.AmplitudeLaws.{amplitude-ext}
-use Rattle.reciprocal_to_normal.proofs.ListingLaws.{above-none, above-append, kept-above}
+use Rattle.reciprocal_to_normal.proofs.ListingLaws.{above-none, above-append, outside-above}
 use native.Mathlib.Omega.{arith}
 use Rattle.reciprocal_to_normal.proofs.listing.list_row.Statement.{statement}
 use Rattle.reciprocal_to_normal.proofs.listing.list_row.Tie as tie
@@ -52,12 +52,12 @@ loop-again c = let s = c .before .before .before .before .before .before .before
     let k = c .before .before .before .before .before .before .loop .k in
     let pk = c .before .before .before .before .before .loop-test .taken in
     let room = s .pre .1 in
-    let kept = kept-above inv in (
+    let kept = outside-above inv in (
       omega (arith, pk),
       above-append inv (c .before .before .list-slot .ensures) (room .3)
           (λ i h. let e : k + i ≡ k = omega arith in
           rw e (ap (λ y. strengthFrom (a .cutoff) y (a .x) (a .y) (at (a .freqs2 .now) k))
-          (amplitude-ext (3 * a .np) (λ i h. split-kept kept (a .mo) (3 * a .np * (3 * a .np)) i (omega (arith, room .0))) (λ i h. split-kept kept (a .e1) (3 * a .np * (3 * a .np)) i (omega (arith, room .1))) (λ i h. split-kept kept (a .e2) (3 * a .np * (3 * a .np)) i (omega (arith, room .2))) (a .j) k (s .pre .0 .2) (omega (arith, pk))))),
+          (amplitude-ext (3 * a .np) (λ i h. split-outside kept (a .mo) (3 * a .np * (3 * a .np)) i (omega (arith, room .0))) (λ i h. split-outside kept (a .e1) (3 * a .np * (3 * a .np)) i (omega (arith, room .1))) (λ i h. split-outside kept (a .e2) (3 * a .np * (3 * a .np)) i (omega (arith, room .2))) (a .j) k (s .pre .0 .2) (omega (arith, pk))))),
     )
 
 same-length : tie.Need-same-length Inv-loop μ-loop

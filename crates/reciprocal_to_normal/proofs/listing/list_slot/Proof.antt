@@ -3,9 +3,9 @@ use mathlib.Core.Path.{refl, ap, _∙_}
 use Prim.Native.Nat.{_+_, _*_}
 use native.Mathlib.Nat.{mul-le-mul}
 use Rattle.phonon.specs.ReciprocalToNormal.{strengthFrom}
-use Rattle.planes.proofs.RegionLaws.{kept-split}
+use Rattle.planes.proofs.RegionLaws.{outside-split}
 use Rattle.reciprocal_to_normal.proofs.AmplitudeLaws.{dot-is}
-use Rattle.reciprocal_to_normal.proofs.ListingLaws.{above-put, above-kept}
+use Rattle.reciprocal_to_normal.proofs.ListingLaws.{above-put, above-outside}
 use native.Mathlib.Omega.{arith}
 use borrow.Author.Needs.{needs}
 use Rattle.reciprocal_to_normal.proofs.listing.list_slot.Statement.{statement}
@@ -46,7 +46,7 @@ returns : tie.Need-returns
 returns c = let s = c .before .before .before .before .before .before .before .before in
     let a = s .args in
     let w = c .before .before .before .before .before .contract-row .ensures in
-    above-kept (kept-split (a .ro) (a .ro + 2 * (3 * a .np)) (omega arith) (omega arith) refl w) (s .pre .1 .3)
+    above-outside (outside-split (a .ro) (a .ro + 2 * (3 * a .np)) (omega arith) (omega arith) refl w) (s .pre .1 .3)
     (above-put _ (a .ro) (a .ro + 2 * (3 * a .np)) (a .to) (omega (arith, w .size, s .pre .1 .4)) (omega (arith, s .pre .1 .3))
     (c .strength-of .ensures ∙ ap (λ y. strengthFrom (a .cutoff) y (a .x) (a .y) (a .z))
     (c .before .cmplx-dot-partial4 .ensures ∙ dot-is (3 * a .np) (a .ro) (a .mo) (a .e1) (a .e2) (a .k) (s .pre .1 .1) w (a .j) (s .pre .0 .2))))

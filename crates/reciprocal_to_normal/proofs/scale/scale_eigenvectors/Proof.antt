@@ -4,7 +4,7 @@ use Prim.Native.Nat.{_+_, _*_, _-_, _≤_}
 use native.Mathlib.Nat.{add-mul, mul-le-mul, zero-mul}
 use Rattle.planes.specs.Split.{WroteSplit}
 use Rattle.planes.proofs.SplitLaws.{split-none}
-use Rattle.planes.proofs.RegionLaws.{split-to, kept-split}
+use Rattle.planes.proofs.RegionLaws.{split-to, outside-split}
 use Rattle.reciprocal_to_normal.proofs.ScaleLaws.{runs-all, run-le, scaled, scaled-turn, scaled-column}
 use native.Mathlib.Omega.{arith}
 use Rattle.reciprocal_to_normal.proofs.scale.scale_eigenvectors.Statement.{statement}
@@ -87,7 +87,7 @@ returns c = let s = c .before .before .before .before in
     let t = s .args in
     let e : c .before .loop .a ≡ t .np = omega arith in
     let w = split-to (t .np * (3 * (3 * t .np))) (3 * t .np * (3 * t .np)) (runs-all (t .np)) (rw e at (c .before .loop .inv .1)) in
-    (scaled-column (t .eigenvectors .now) (t .w .now) (t .io) (t .np) (t .g) (t .eo) (s .pre .1) w, kept-split (t .eo) (t .eo + 2 * (3 * t .np * (3 * t .np))) (omega arith) (omega arith) refl w)
+    (scaled-column (t .eigenvectors .now) (t .w .now) (t .io) (t .np) (t .g) (t .eo) (s .pre .1) w, outside-split (t .eo) (t .eo + 2 * (3 * t .np * (3 * t .np))) (omega arith) (omega arith) refl w)
 
 pub scale-eigenvectors-spec : {M : Type 1} → statement M
 scale-eigenvectors-spec =

@@ -3,7 +3,7 @@ use mathlib.Core.Path.{refl, sym, _∙_}
 use Prim.Native.Nat.{_+_, _*_}
 use native.Mathlib.Nat.{mul-le-mul}
 use Rattle.phonon.specs.Number.{at}
-use Rattle.planes.proofs.RegionLaws.{kept-none, kept-then, kept-split}
+use Rattle.planes.proofs.RegionLaws.{outside-none, outside-then, outside-split}
 use Rattle.reciprocal_to_normal.proofs.SlotLaws.{visited-ext}
 use Rattle.reciprocal_to_normal.proofs.FlagLaws.{column-passed}
 use Rattle.reciprocal_to_normal.proofs.AmplitudeLaws.{pair-is, sparse-is}
@@ -30,7 +30,7 @@ all-flagged-requires c κs = search needs
 
 returns : tie.Need-returns
 returns c = let a = c .before .before .before .before .before .before .before .args in
-    (column-passed _ _ _ (3 * a .np) (a .b) (a .k) _ (sym (c .before .all-flagged .ensures) ∙ c .if1 .taken), kept-none _ _ _)
+    (column-passed _ _ _ (3 * a .np) (a .b) (a .k) _ (sym (c .before .all-flagged .ensures) ∙ c .if1 .taken), outside-none _ _ _)
 
 add-contract-row : tie.Need-add-contract-row
 add-contract-row c = search needs
@@ -61,7 +61,7 @@ returns-2 c = let s = c .before .before .before .before .before .before .before 
     let a = s .args in
     let w = c .before .before .before .before .before .before .before .before .before .before .contract-row .ensures in
     let end = a .ro + 4 * (3 * a .np) in
-    (visited-ext (c .before .before .fill-sparse-column .ensures) (λ n q d. sparse-is (3 * a .np) (a .ro) (a .mo) (a .e1) (a .e2) (a .k) (s .pre .1 .1) w (at (a .freqs1 .now)) (at (a .freqs2 .now)) (a .x) (a .cutoff) (a .b) n d), kept-split (a .ro) end (omega arith) (omega arith) refl w)
+    (visited-ext (c .before .before .fill-sparse-column .ensures) (λ n q d. sparse-is (3 * a .np) (a .ro) (a .mo) (a .e1) (a .e2) (a .k) (s .pre .1 .1) w (at (a .freqs1 .now)) (at (a .freqs2 .now)) (a .x) (a .cutoff) (a .b) n d), outside-split (a .ro) end (omega arith) (omega arith) refl w)
 
 contract-row-requires-2 : tie.Need-contract-row-requires-2
 contract-row-requires-2 c κs = search needs
@@ -88,7 +88,7 @@ returns-3 c = let s = c .before .before .before .before .before .before .before 
     let v = c .before .before .before .before .before .before .before .before .contract-row2 .ensures in
     let end = a .ro + 4 * (3 * a .np) in (
       visited-ext (c .before .before .fill-column .ensures) (λ n q d. pair-is (3 * a .np) (a .ro) (a .mo) (a .e1) (a .e2) (a .k) (s .pre .1 .1) w (a .ro + 2 * (3 * a .np)) v (at (a .freqs1 .now)) (at (a .freqs2 .now)) (a .x) (a .cutoff) (a .b) n d),
-      kept-then (kept-split (a .ro) end (omega arith) (omega arith) refl w) (kept-split (a .ro) end (omega arith) (omega arith) refl v),
+      outside-then (outside-split (a .ro) end (omega arith) (omega arith) refl w) (outside-split (a .ro) end (omega arith) (omega arith) refl v),
     )
 
 pub fill-pair-spec : {M : Type 1} → statement M

@@ -3,9 +3,9 @@ use mathlib.Core.Path.{_≡_}
 use Prim.Native.Nat.{_+_, _*_, _-_, _≤_}
 use lib.ListN.{length}
 use Rattle.phonon.specs.Number.{at, flagged}
-use Rattle.planes.specs.Region.{Kept}
+use Rattle.planes.specs.Region.{SameOutside}
 use Rattle.planes.specs.Split.{split}
-use Rattle.planes.proofs.RegionLaws.{kept-none, kept-then, split-kept}
+use Rattle.planes.proofs.RegionLaws.{outside-none, outside-then, split-outside}
 use Rattle.reciprocal_to_normal.specs.Slots.{Visited, InPlane, planeSlot}
 use Rattle.reciprocal_to_normal.proofs.SlotLaws.{visited-none, visited-ext, plane-step}
 use Rattle.reciprocal_to_normal.proofs.AmplitudeLaws.{plane-ext}
@@ -15,7 +15,7 @@ use Rattle.reciprocal_to_normal.proofs.slots.fill_plane.Tie as tie
 
 abbrev Inv-loop : tie.InvT-loop
 Inv-loop out₀ flags w₀ mo e1 e2 ro freqs1 freqs2 np b x cutoff nb k₀ out w k = (k ≤ 3 * np) × Visited out₀ out (flagged flags) (planeSlot (3 * np) (split w₀ mo (3 * np * (3 * np))) (split w₀ e1 (3 * np * (3 * np))) (split w₀ e2 (3 * np * (3 * np))) (at freqs1) (at freqs2) x cutoff)
-    (length out₀) (InPlane (3 * np) b k) × Kept w₀ w ro (ro + 4 * (3 * np))
+    (length out₀) (InPlane (3 * np) b k) × SameOutside w₀ w ro (ro + 4 * (3 * np))
 
 abbrev μ-loop : tie.MeasureT-loop
 μ-loop out₀ flags w₀ mo e1 e2 ro freqs1 freqs2 np b x cutoff nb k₀ out w k = nb - k
@@ -24,7 +24,7 @@ mul-nb : tie.Need-mul-nb Inv-loop μ-loop
 mul-nb c = omega arith
 
 loop-holds : tie.Need-loop-holds Inv-loop μ-loop
-loop-holds c = (omega arith, visited-none _ _ _ _ _ (λ n q d. omega (arith, d .1)), kept-none _ _ _)
+loop-holds c = (omega arith, visited-none _ _ _ _ _ (λ n q d. omega (arith, d .1)), outside-none _ _ _)
 
 fill-pair-requires : tie.Need-fill-pair-requires Inv-loop μ-loop
 fill-pair-requires c κs = let s = c .before .before .before .before .before .before .before .before .before in
@@ -47,9 +47,9 @@ loop-again c = let s = c .before .before .before .before .before .before .before
       plane-step _ _ _ (3 * a .np) (a .b) k (omega (arith, s .pre .0 .0)) (inv .1)
           (visited-ext (rw (inv .1 .size) at (c .before .before .before .before .fill-pair .ensures .0))
           (λ n q d. plane-ext (3 * a .np)
-          (λ i h. split-kept (inv .2) (a .mo) (3 * a .np * (3 * a .np)) i (omega (arith, room .0))) (λ i h. split-kept (inv .2) (a .e1) (3 * a .np * (3 * a .np)) i (omega (arith, room .1))) (λ i h. split-kept (inv .2) (a .e2) (3 * a .np * (3 * a .np)) i (omega (arith, room .2)))
+          (λ i h. split-outside (inv .2) (a .mo) (3 * a .np * (3 * a .np)) i (omega (arith, room .0))) (λ i h. split-outside (inv .2) (a .e1) (3 * a .np * (3 * a .np)) i (omega (arith, room .1))) (λ i h. split-outside (inv .2) (a .e2) (3 * a .np * (3 * a .np)) i (omega (arith, room .2)))
           (at (a .freqs1 .now)) (at (a .freqs2 .now)) (a .x) (a .cutoff) n (d .2) (omega (arith, d .1, pk)))),
-      kept-then (inv .2) (c .before .before .before .before .fill-pair .ensures .1),
+      outside-then (inv .2) (c .before .before .before .before .fill-pair .ensures .1),
     )
 
 same-length : tie.Need-same-length Inv-loop μ-loop

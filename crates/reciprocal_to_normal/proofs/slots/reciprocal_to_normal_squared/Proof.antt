@@ -5,8 +5,8 @@ use native.Mathlib.Nat.{mul-le-mul}
 use lib.ListN.{length}
 use Rattle.phonon.specs.Number.{at, flagged, index, int}
 use Rattle.phonon.proofs.Accepted.{index-below}
-use Rattle.planes.specs.Region.{Kept}
-use Rattle.planes.proofs.RegionLaws.{kept-none, kept-then, kept-split, kept-wider}
+use Rattle.planes.specs.Region.{SameOutside}
+use Rattle.planes.proofs.RegionLaws.{outside-none, outside-then, outside-split, outside-wider}
 use Rattle.reciprocal_to_normal.specs.Slots.{Visited, bOf, jOf, kOf, InAll, slotStrength}
 use Rattle.reciprocal_to_normal.proofs.SlotLaws.{visited-none, visited-ext, visited-table, all-step, j-lt, b-lt}
 use Rattle.reciprocal_to_normal.proofs.FlagLaws.{plane-le}
@@ -20,7 +20,7 @@ use Rattle.reciprocal_to_normal.proofs.slots.reciprocal_to_normal_squar
 abbrev Inv-loop : tie.InvT-loop
 Inv-loop out₀ flags w₀ fo e0 e1 e2 so freqs0 freqs1 freqs2 bands np cutoff nb ro b₀ b-end out w b = (b ≤ length bands)
     × Visited out₀ out (flagged flags) (slotStrength np w₀ fo e0 e1 e2 freqs0 freqs1 freqs2 (λ i. index (int bands i)) cutoff) (length out₀) (InAll (3 * np) b)
-    × Kept w₀ w so (so + 2 * (3 * np * (3 * np)) + 4 * (3 * np))
+    × SameOutside w₀ w so (so + 2 * (3 * np * (3 * np)) + 4 * (3 * np))
 
 abbrev μ-loop : tie.MeasureT-loop
 μ-loop out₀ flags w₀ fo e0 e1 e2 so freqs0 freqs1 freqs2 bands np cutoff nb ro b₀ b-end out w b = b-end - b
@@ -39,7 +39,7 @@ add-ro : tie.Need-add-ro Inv-loop μ-loop
 add-ro c = omega arith
 
 loop-holds : tie.Need-loop-holds Inv-loop μ-loop
-loop-holds c = (omega arith, visited-none _ _ _ _ _ (λ n q d. omega (arith, d)), kept-none _ _ _)
+loop-holds c = (omega arith, visited-none _ _ _ _ _ (λ n q d. omega (arith, d)), outside-none _ _ _)
 
 index-at-requires : tie.Need-index-at-requires Inv-loop μ-loop
 index-at-requires c κs = omega arith
@@ -99,7 +99,7 @@ loop-again c = let s = c .before .before .before .before .before .before .before
           (visited-ext (rw (inv .1 .size) at (f .0))
           (λ m q d. plane-is (a .np) (a .fo) (a .e0) (a .e1) (a .e2) (a .so) n pn (room .0) (room .1) (room .2) (room .3) (inv .2) w
           (a .freqs0 .now) (a .freqs1 .now) (a .freqs2 .now) (λ i. index (int (a .bands .now) i)) (a .cutoff) b en m (d .0) (j-lt (3 * a .np) m some) (d .1))),
-      kept-then (inv .2) (kept-then (kept-split (a .so) end (omega arith) (omega arith) refl w) (kept-wider (a .so) end (omega arith) (omega arith) (f .1))),
+      outside-then (inv .2) (outside-then (outside-split (a .so) end (omega arith) (omega arith) refl w) (outside-wider (a .so) end (omega arith) (omega arith) (f .1))),
     )
 
 same-length : tie.Need-same-length Inv-loop μ-loop

@@ -12,7 +12,7 @@ use Rattle.phonon.specs.Refusal.{Test, lowest, tableLengths, tableTests}
 use Rattle.phonon.proofs.Lowest.{pass, stop, none-left}
 use Rattle.phonon.proofs.Accepted.{holds}
 use Rattle.checks.proofs.Laws.{told-good, told-bad}
-use Rattle.checks.proofs.MeasureLaws.{modest}
+use Rattle.checks.proofs.MeasureLaws.{small}
 use Rattle.refusals.proofs.tables.tables_number.Statement.{statement}
 use Rattle.refusals.proofs.tables.tables_number.Tie as tie
 
@@ -73,7 +73,7 @@ past5 c = past4 (c .before .before) ∙ pass _ _ (told-good (c .before .all-posi
 -- ---- the needs
 
 sizes-of-requires : tie.Need-sizes-of-requires
-sizes-of-requires c κs = modest _ (c .before .before .before .before .before .before .before .pre)
+sizes-of-requires c κs = small _ (c .before .before .before .before .before .before .before .pre)
 
 returns : tie.Need-returns
 unfolding tableLengths allTrue allTrueAfter
