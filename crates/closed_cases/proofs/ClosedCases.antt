@@ -9,17 +9,17 @@ use Rattle.phonon.specs.declared.Anchoring.the-variants.{Plain, Averaged}
 use Rattle.phonon.specs.declared.Form.the-variants.{Compact, Full}
 use Rattle.phonon.specs.declared.Symmetry.the-variants.{Off, Symmetrized}
 use Rattle.phonon.specs.declared.Weights.the-variants.{PerSlot, AtFrequencyPoint}
-use Rattle.phonon.specs.Number.{bits, f0, f1, table}
+use Rattle.phonon.specs.Number.{bits, f0, f1, at, table}
 use Rattle.phonon.specs.Common.{cat}
 use Rattle.phonon.specs.ReciprocalToNormal.{dot}
 use Rattle.phonon.specs.Refusal.{tripletRefusal, listRefusal, totalsRefusal, joinedRefusal}
 use Rattle.phonon.specs.Doors.{answerFor, tripletOutcome, listOutcome, totalsOutcome, joinedOutcome}
 use Rattle.phonon.specs.KeyCases.{minus0, minus1}
-use Rattle.closed_cases.specs.ClosedCases.{madeOver, madeFrequencies, madeFlags, forces2, crystal2, grid3, someFrom, some, some2, strengthOf2, strength2, constants1, eigenvectors1, strengthOf1, passed1, tables1, joined1, symmetrized1, list1, totals1, tablesU, tripletU, listU, joinedU, totalsU, shorter, longer, starting, asIs, phasesU}
+use Rattle.closed_cases.specs.ClosedCases.{madeOver, madeFrequencies, madeFlags, forces2, crystal2, grid3, someFrom, some, some2, strengthOf2, strength2, constants1, eigenvectors1, strengthOf1, passed1, nine, constants9, strength9, tables1, joined1, symmetrized1, list1, totals1, tablesU, tripletU, listU, joinedU, totalsU, shorter, longer, starting, asIs, phasesU}
 use Rattle.phonon.proofs.Evaluate.{evaluate}
 
 unfoldable computed : ℕ
-unfolding evaluate madeOver madeFrequencies madeFlags forces2 crystal2 grid3 someFrom some some2 strengthOf2 strength2 constants1 eigenvectors1 strengthOf1 passed1 tables1 joined1 symmetrized1 list1 totals1 tablesU tripletU listU joinedU totalsU shorter longer starting phasesU
+unfolding evaluate madeOver madeFrequencies madeFlags forces2 crystal2 grid3 someFrom some some2 strengthOf2 strength2 constants1 eigenvectors1 strengthOf1 passed1 constants9 strength9 tables1 joined1 symmetrized1 list1 totals1 tablesU tripletU listU joinedU totalsU shorter longer starting phasesU
 computed = 0
 
 -- ---- the force constants in reciprocal space
@@ -83,6 +83,15 @@ pub four-sums :
     dot 4 (cat (f1 ∷ f0 ∷ bits 0x4340000000000000 ∷ f0 ∷ f1 ∷ f0 ∷ bits 0xc340000000000000 ∷ f0 ∷ [])) (λ i. record { re = f1; im = f0 }) ≡ record { re = f1; im = f0 }
 unfolding computed
 four-sums = refl
+
+-- two terms in each partial sum, and a ninth after: 2 ^ 54 + 4
+pub nine-terms : dot 9 (λ i. record { re = at nine i; im = f0 }) (λ i. record { re = f1; im = f0 }) ≡ record { re = bits 0x4350000000000001; im = f0 }
+unfolding computed
+nine-terms = refl
+
+pub strength-of-nine : strength9 ≡ bits 0x46b0000000000002
+unfolding computed
+strength-of-nine = refl
 
 -- ---- the doors: all that an accepted call leaves
 

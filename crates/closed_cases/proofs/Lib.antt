@@ -1,2 +1,3 @@
 -- The closed cases, computed.
 pub mod ClosedCases
+pub mod TwoRuns

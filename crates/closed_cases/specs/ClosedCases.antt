@@ -1,9 +1,9 @@
 -- Closed cases beside document 01's key cases: they reach what cell U cannot show. The expected bits are the oracle's: its program
 -- closed_cases makes the same tables by the same rules and prints what the Rust gives.
 use Prim.Native.Nat.{ℕ, _+_, _*_, _/_, _%_}
-use mathlib.Core.Bool.{false, cond}
+use mathlib.Core.Bool.{false, _&&_, cond}
 use mathlib.Core.List.{List, [], _∷_, _++_, map}
-use lib.Dec.{eqb}
+use lib.Dec.{eqb, ltb}
 use lib.IntN.{ℤ, pos, negsuc, subℕ}
 use lib.Ieee.{Float, inf}
 use lib.ListN.{take, drop, replicate}
@@ -16,11 +16,11 @@ use Rattle.phonon.specs.declared.Weights.{Weights}
 use Rattle.phonon.specs.declared.Weights.the-variants.{PerSlot}
 use Rattle.phonon.specs.declared.Anchoring.the-variants.{Plain}
 use Rattle.phonon.specs.declared.Form.the-variants.{Compact, Full}
-use Rattle.phonon.specs.Number.{_⊘_, bits, f0, f1, f2, f3, float, whole, table}
-use Rattle.phonon.specs.Common.{cat}
+use Rattle.phonon.specs.Number.{_⊘_, bits, f0, f1, f2, f3, float, whole, at, table}
+use Rattle.phonon.specs.Common.{cat, ctable}
 use Rattle.phonon.specs.Sets.{Forces, Crystal, Grid, Phonons, Tables, Legs, TripletSet, ListSet, TotalsSet, JoinedSet}
 use Rattle.phonon.specs.RealToReciprocal.{qAt, phaseFactors, preFactors, reciprocalEntry}
-use Rattle.phonon.specs.ReciprocalToNormal.{inverseRoots, phononAt, strength}
+use Rattle.phonon.specs.ReciprocalToNormal.{inverseRoots, Phonon, phononAt, strength}
 use Rattle.phonon.specs.KeyCases.{minus0, minus1, half, f4, f16, among}
 
 -- ---- made-up tables
@@ -105,6 +105,29 @@ strengthOf1 inv p = strength 1 constants1 (record { leg0 = phononAt 3 inv p 0 0;
 
 unfoldable pub passed1 : Float
 passed1 = strengthOf1 (inverseRoots 1 (f3 ∷ [])) (record { frequencies = f2 ∷ f3 ∷ f4 ∷ []; eigenvectors = eigenvectors1 })
+
+-- ---- one strength of 3 atoms, whose amplitude is a dot of nine terms
+
+-- 2 ^ 53, to which 1 is lost
+abbrev pub big : Float
+big = bits 0x4340000000000000
+
+-- Partial sums of neighbours, one running sum, the four joined in another way, or the ninth term in a partial sum: each has other bits.
+abbrev pub nine : List Float
+nine = big ∷ f1 ∷ f1 ∷ f1 ∷ f2 ∷ big ∷ f1 ∷ f1 ∷ f1 ∷ []
+
+-- row 0 of the contracted force constants holds them, all else is 0.0
+unfoldable pub constants9 : List Float
+constants9 =
+    table 1458 (λ i. cond (eqb (i % 2) 0 && ltb i 162 && ltb (i / 2 % 27) 3) (at nine (3 * (i / 54) + i / 2 % 27)) f0)
+
+-- one phonon of frequency 1.0
+abbrev pub of1 : List Float → Phonon
+of1 column = record { frequency = f1; column = column }
+
+unfoldable pub strength9 : Float
+strength9 =
+    strength 3 constants9 (record { leg0 = of1 (f1 ∷ replicate 17 f0); leg1 = of1 (f1 ∷ replicate 17 f0); leg2 = of1 (ctable 9 (λ m. record { re = f1; im = f0 })) }) half
 
 -- ---- the doors on 1 atom and 2 supercell atoms
 

@@ -1,2 +1,3 @@
 -- The sets of the closed cases.
 pub mod ClosedCases
+pub mod TwoRuns

@@ -1,12 +1,15 @@
 -- The key cases M1 to M11 hold of the definitions: each is computed.
+use Prim.Native.Nat.{ℕ, zero, suc, _<_}
+use native.Mathlib.Omega.{arith}
 use mathlib.Core.Path.{_≡_, refl}
-use mathlib.Core.List.{List, _∷_, map}
-use Rattle.phonon.specs.Doors.{JoinedOutcome, joinedOutcome}
+use mathlib.Core.List.{List, [], _∷_}
+use lib.ListN.{length, getD}
+use Rattle.phonon.specs.Doors.{joinedOutcome}
 use Rattle.phonon.specs.KeyCases.{KeyCase, M1, M2, M3, M4, M5, M6, M7, M8, M9, M10, M11, keyCases}
 use Rattle.phonon.proofs.Evaluate.{evaluate}
 
 -- what the joined door leaves is what the table says
-abbrev Holds : KeyCase → Type 0
+abbrev pub Holds : KeyCase → Type 0
 Holds c = joinedOutcome (c .set) ≡ c .outcome
 
 -- Each case is computed by itself: together they would come near the limit of what one declaration may compute.
@@ -54,10 +57,16 @@ m11 : Holds M11
 unfolding evaluate
 m11 = refl
 
-infixr 20 _and_
-_and_ : {a b : JoinedOutcome} {x y : List JoinedOutcome} → a ≡ b → x ≡ y → _≡_ {A = List JoinedOutcome} (a ∷ x) (b ∷ y)
-p and q = λ i. p i ∷ q i
+-- each case of a list
+abbrev Hold : List KeyCase → Type 0
+Hold [] = Unit
+Hold (c ∷ cs) = Holds c × Hold cs
 
--- M1 to M11
-pub key-cases : map (λ c. joinedOutcome (c .set)) keyCases ≡ map (λ c. c .outcome) keyCases
-key-cases = m1 and m2 and m3 and m4 and m5 and m6 and m7 and m8 and m9 and m10 and m11 and refl
+hold-at : (cs : List KeyCase) → Hold cs → (n : ℕ) → n < length cs → Holds (getD cs n M1)
+hold-at [] h n l = absurd (omega arith)
+hold-at (c ∷ cs) h zero l = h .0
+hold-at (c ∷ cs) h (suc n) l = hold-at cs (h .1) n (omega arith)
+
+-- M1 to M11: every case of the table
+pub key-cases : (n : ℕ) → n < length keyCases → Holds (getD keyCases n M1)
+key-cases = hold-at keyCases (m1, (m2, (m3, (m4, (m5, (m6, (m7, (m8, (m9, (m10, (m11, tt)))))))))))

@@ -8,7 +8,7 @@ use mathlib.Core.Bool.{Bool, true, false, _&&_, cond, true≢false}
 use mathlib.Core.List.{List, [], _∷_, _++_}
 use borrow.Author.Tests.{leb-true, leb-false, le-leb, lt-leb, eqb-true, eqb-false}
 use lib.Dec.{leb, eqb}
-use Rattle.phonon.specs.Refusal.{Test, lower, lowest}
+use Rattle.phonon.specs.Refusal.{Test, lower, lowest, fails, Exactly}
 use Rattle.phonon.proofs.Laws.{and-both}
 
 -- ---- the lower of two numbers
@@ -202,15 +202,6 @@ pub one-fails : (xs ys : List Test) {b : Bool} → least 1 ys ≡ true → b ≡
 one-fails xs ys h e = lowest-append xs _ ∙ ap (lower (lowest xs)) (stop 0 ys h e) ∙ lower-one (lowest xs)
 
 -- ---- each number is given exactly if a test of it fails and none of a lower one does
-
--- a test of number n fails
-abbrev pub fails : ℕ → List Test → Bool
-fails n [] = false
-fails n (t ∷ ts) = cond (t .good) (fails n ts) (cond (eqb (t .number) n) true (fails n ts))
-
-pub record Exactly (n : ℕ) (ts : List Test) : Type 0 where
-  pub some : fails n ts ≡ true
-  pub none-lower : (k : ℕ) → 0 < k → k < n → fails k ts ≡ false
 
 given-fails : (n : ℕ) (ts : List Test) → lowest ts ≡ suc n → fails (suc n) ts ≡ true
 unfolding lowest lower

@@ -44,7 +44,8 @@ third2 s k = at (s .frequencies) (index (int (s .points) 2) * s .bands + k)
 unfoldable pub counted : Sum → ℕ → ℕ → ℕ → Bool
 counted s b j k = not (flagged (s .flags) (placeOf s b j k)) && lt (s .cutoff) (second1 s j) && lt (s .cutoff) (third2 s k)
 
--- A counted slot's contribution: n and m are the occupations of its later bands, x and y its weights, v its strength.
+-- A counted slot's contribution: n and m are the occupations of its later bands, x and y its weights, v its strength. It is the paper's
+-- |Φ|² {(n + m + 1) δ(ω - ω′ - ω″) + (n - m) [δ(ω + ω′ - ω″) - δ(ω - ω′ + ω″)]}, with x and y for the first and the second delta; 18π/ħ² is left out.
 unfoldable pub contribution : Float → Float → Float → Float → Float → Float → Float → Float
 contribution temperature weight n m x y v =
     cond (lt f0 temperature) (((n ⊕ m ⊕ f1) ⊗ x ⊕ (n ⊖ m) ⊗ y) ⊗ v ⊗ weight) (x ⊗ v ⊗ weight)

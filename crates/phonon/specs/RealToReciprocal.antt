@@ -49,7 +49,7 @@ asComplex p = record { re = p .cos; im = p .sin }
 unfoldable pub cis : Float → Complex
 cis x = asComplex (sinCos x)
 
--- the mean over the shortest vectors of one entry of the multiplicities: their sum times the rounded 1.0 / count
+-- the paper's exp(i q · [r(lκ) - r(0κ)]): the mean over the shortest vectors of one entry of the multiplicities, which is their sum times the rounded 1.0 / count
 unfoldable pub phaseFactor : List Float → List Float → ℤ → ℤ → Complex
 phaseFactor q vectors count start =
     scale (fold (index count) czero (λ i s. cadd s (cis (phase q vectors (index start + i))))) (f1 ⊘ float count)
@@ -73,6 +73,7 @@ prePhase vectors q v =
 unfoldable pub anchorVector : ℕ → List ℤ → List ℤ → ℕ → ℕ
 anchorVector P multiplicity p2s i = index (int multiplicity (2 * (index (int p2s i) * P) + 1))
 
+-- the paper's exp(i (q + q′ + q″) · r(0κ)), with r(0κ) counted from atom 0
 unfoldable pub preFactorEntry : ℕ → List Float → List ℤ → List ℤ → Legs (List Float) → ℕ → Complex
 preFactorEntry P vectors multiplicity p2s q i = cis (prePhase vectors q (anchorVector P multiplicity p2s i))
 
@@ -138,6 +139,7 @@ unfoldable pub over3 : Complex → Complex
 over3 a = record { re = a .re ⊘ f3; im = a .im ⊘ f3 }
 
 module _ (S : ℕ) (c : Forces) (w : Factors) (i j k l m n : ℕ) where
+  -- the paper's sum over l′ and l″ of Φ(0κ, l′κ′, l″κ″) exp(i q′ · [..]) exp(i q″ · [..]), times exp(i (q + q′ + q″) · r(0κ)); its 1/√N, 1/3! and Δ(q + q′ + q″) are not here
   unfoldable pub plainElement : Complex
   plainElement = cmul (element S c Alone (w .legs .leg1) (w .legs .leg2) i j k (l * 9 + m * 3 + n)) (w .pre i)
 

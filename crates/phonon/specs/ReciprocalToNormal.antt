@@ -18,7 +18,7 @@ inverseRoot masses a = f1 ⊘ root (at masses a)
 unfoldable pub inverseRoots : ℕ → List Float → List Float
 inverseRoots P masses = table P (inverseRoot masses)
 
--- component m of band n's column at grid point g, of B bands
+-- component m of band n's column at grid point g, of B bands: the paper's W(κ, λ) / √m of its √(ħ/2mω)
 unfoldable pub columnEntry : ℕ → (ℕ → Complex) → (ℕ → Float) → ℕ → ℕ → ℕ → Complex
 columnEntry B eigenvectors inv g n m = scale (eigenvectors ((g * B + m) * B + n)) (inv (m / 3))
 
@@ -88,7 +88,7 @@ cut cutoff f = le f cutoff
 unfoldable pub anyCut : Float → Float → Float → Float → Bool
 anyCut cutoff x y z = cut cutoff x || cut cutoff y || cut cutoff z
 
--- from the amplitude and the three frequencies
+-- from the amplitude and the three frequencies: the paper's |Φ|² without its constants, where 1/(x y z) is what the three √(ħ/2mω) leave, f for ω; the paper has no cutoff
 unfoldable pub strengthFrom : Float → Complex → Float → Float → Float → Float
 strengthFrom cutoff a x y z = cond (anyCut cutoff x y z) f0 (squared a ⊘ (x ⊗ y ⊗ z))
 

@@ -1,8 +1,9 @@
 -- Document 01, "Turned back at the door": each number is one test, true where the set passes, and of the tests that fail the lowest number is given.
 -- Tests stand in groups by what they read, and a door has the groups of what it is handed: totals alone has no number 5, 6 and 9, and the doors without a
 -- bath have no number 8. Each test is over just the slices that it reads.
-use Prim.Native.Nat.{ℕ, zero, suc, _+_, _-_, _*_}
-use mathlib.Core.Bool.{Bool, not, _&&_, cond}
+use Prim.Native.Nat.{ℕ, zero, suc, _+_, _-_, _*_, _<_}
+use mathlib.Core.Path.{_≡_}
+use mathlib.Core.Bool.{Bool, true, false, not, cond}
 use mathlib.Core.List.{List, [], _∷_, _++_}
 use lib.Dec.{leb, eqb}
 use lib.IntN.{ℤ, pos}
@@ -37,6 +38,16 @@ lower (suc n) (suc k) = cond (leb n k) (suc n) (suc k)
 unfoldable pub lowest : List Test → ℕ
 lowest [] = 0
 lowest (t ∷ ts) = cond (t .good) (lowest ts) (lower (t .number) (lowest ts))
+
+-- a test of number n fails
+abbrev pub fails : ℕ → List Test → Bool
+fails n [] = false
+fails n (t ∷ ts) = cond (t .good) (fails n ts) (cond (eqb (t .number) n) true (fails n ts))
+
+-- document 01's rule: a number is given exactly if its condition holds and no lower one does. So it is with `lowest`, for any tests (`exact`, `exactly` in proofs/Lowest.antt).
+pub record Exactly (n : ℕ) (ts : List Test) : Type 0 where
+  pub some : fails n ts ≡ true
+  pub none-lower : (k : ℕ) → 0 < k → k < n → fails k ts ≡ false
 
 -- ---- 1, measure: P, S, F, G, vectors or list beyond its limits
 
@@ -226,6 +237,7 @@ tripletPhases t =
 abbrev pub entries : TotalsSet → ℕ
 entries s = entriesOf (s .weights) (s .measures .first) (3 * s .measures .atoms)
 
+-- 1 to 7, and 9
 abbrev pub tripletTests : TripletSet → List Test
 tripletTests s =
     testsOf (s .tables)
@@ -233,6 +245,7 @@ tripletTests s =
     ++ pointTests (s .tables .measures .grid) (s .triplet)
     ++ phaseTests (tripletPhases (ofTriplet s))
 
+-- 1 to 7, and 9: the list is tested whole
 abbrev pub listTests : ListSet → List Test
 listTests s =
     countTests (s .list) (s .triplets)
@@ -241,12 +254,14 @@ listTests s =
     ++ pointTests (s .tables .measures .grid) (s .triplets)
     ++ phaseTests (everyBelow (λ t. tripletPhases (ofList s t)) (s .list))
 
+-- 1 to 4, 7 and 8
 abbrev pub totalsTests : TotalsSet → List Test
 totalsTests s =
     aloneTests (measuresOf (s .measures)) (entries s) (s .frequencies) (s .cutoff) (s .flags) (s .strengths)
     ++ pointTests (s .measures .grid) (s .triplet)
     ++ bathTests (entries s) (s .measures .first) (s .bath) (s .first) (s .second) (length (s .totals))
 
+-- 1 to 9
 abbrev pub joinedTests : JoinedSet → List Test
 joinedTests s =
     tripletTests (tripletOf s)

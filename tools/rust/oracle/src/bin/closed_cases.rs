@@ -152,6 +152,42 @@ fn passed1() {
     show("passed1", &out[5..6]);
 }
 
+/// One strength of 3 atoms: row 0 of the contracted force constants is `NINE`, the third leg's column is all ones, and the first and
+/// second leg's are 1 in component 0 alone, so that the amplitude is the dot of nine terms.
+fn nine() {
+    const NINE: [f64; 9] = [BIG, 1.0, 1.0, 1.0, 2.0, BIG, 1.0, 1.0, 1.0];
+    let mut constants: Vec<Cmplx> = vec![[0.0; 2]; 729];
+    for (cn, &x) in NINE.iter().enumerate() {
+        constants[cn / 3 * 27 + cn % 3][0] = x;
+    }
+    // component m of band n is number m * 9 + n
+    let component0: Vec<Cmplx> = (0..81).map(|i| [if i < 9 { 1.0 } else { 0.0 }, 0.0]).collect();
+    let ones = vec![[1.0, 0.0]; 81];
+    let frequencies = [1.0; 9];
+    let mut out = vec![0.0; 81];
+    reciprocal_to_normal_squared(
+        &mut out,
+        &[[0, 0, 0, 0]],
+        &constants,
+        &frequencies,
+        &frequencies,
+        &frequencies,
+        &component0,
+        &component0,
+        &ones,
+        &[1.0; 3],
+        &[0],
+        3,
+        0.5,
+        false,
+        &mut R2NScratch::new(),
+    );
+    show("nine", &out[..1]);
+}
+
+/// 2 ^ 53
+const BIG: f64 = 9_007_199_254_740_992.0;
+
 /// The tables of 1 atom and 2 supercell atoms.
 fn tables1(
     anchoring: Anchoring,
@@ -305,6 +341,33 @@ fn totals1(name: &str, weighting: Weighting) {
     show(name, &totals);
 }
 
+/// Cell U at two grid points, with all force constants 16, for demand 3: band 2 of the first point has this frequency and this entry in
+/// component 2, and slot (1, 1, 2) this flag.
+fn run(name: &str, cutoff: f64, flag: u8, frequency: f64, entry: f64) {
+    let mut set = cell_u::cell_u();
+    set.strengths.measures.grid = 2;
+    set.strengths.settings.cutoff = cutoff;
+    set.strengths.mesh = [2, 1, 1];
+    set.strengths.addresses = vec![0, 0, 0, 1, 0, 0];
+    set.strengths.frequencies = vec![1.0, 0.625, frequency, 0.25, 2.0, 4.0];
+    set.strengths.eigenvectors = set.strengths.eigenvectors.repeat(2);
+    set.strengths.eigenvectors[16] = entry;
+    set.strengths.force_constants = vec![16.0; 27];
+    set.strengths.flags[cell_u::slot(1, 1, 2)] = flag;
+    set.triplet = [0, 1, 1];
+    set.bath.temperature = 1.0;
+    set.second_weights = vec![1.0; 27];
+    let mut strengths = vec![-1.0; 27];
+    let mut totals = vec![-1.0; 3];
+    let mut work = vec![-1.0; 203];
+    assert_eq!(
+        doors::joined(&set, &mut strengths, &mut totals, &mut work),
+        0
+    );
+    show(&format!("{name} strengths"), &strengths);
+    show(&format!("{name} totals"), &totals);
+}
+
 /// Document 01's cell U with the mesh, addresses and vector that only one leg order refuses.
 fn phase(symmetry: Symmetry) -> u8 {
     let mut set = cell_u::cell_u().strengths;
@@ -325,6 +388,7 @@ fn main() {
     reciprocal("reciprocal averaged compact", true, false);
     strength2();
     passed1();
+    nine();
     joined1(
         "joined averaged compact",
         Anchoring::Averaged,
@@ -341,6 +405,8 @@ fn main() {
     list1();
     totals1("totals at a frequency point", Weighting::AtFrequencyPoint);
     totals1("totals per slot", Weighting::PerSlot);
+    run("first run", 0.5, 0, 4.0, 1.0);
+    run("second run", 0.75, 1, 5.0, 2.0);
     println!(
         "phase {} {}",
         phase(Symmetry::Off),
