@@ -11,7 +11,7 @@ ghost use Rattle.phonon.specs.Refusal.{measuresOk};
 ghost use Rattle.checks.specs.Answers.{measuredOf};
 
 // The atoms are tested by themselves first, so that 3 * atoms fits.
-fn measures_ok(m: Measures) -> bool
+pub fn measures_ok(m: Measures) -> bool
     ensures { λ r. ⌜ r ≡ measuresOk m ⌝ }
 {
     if limits::MOST_ATOMS < m.atoms {

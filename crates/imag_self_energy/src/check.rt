@@ -1,21 +1,18 @@
 // The tests of totals alone: those of its own slices, and the groups that it shares with the other doors.
 use checks::groups::bath_number;
 use checks::groups::points_number;
-use checks::measures::check_measures;
+use checks::measures::measures_ok;
 use checks::values::cutoff_ok;
 use checks::verdict::Checked;
-use checks::verdict::Measured;
 use checks::verdict::checked_of;
 use checks::verdict::lower_of;
 use phonon::Bath;
-use phonon::Form;
 use phonon::Measures;
-use phonon::Sizes;
 use phonon::TotalsMeasures;
 use phonon::Weights;
 ghost use mathlib.Core.Path.{_≡_};
 ghost use mathlib.Core.Bool.{true};
-ghost use Prim.Native.Nat.{_*_, _≤_};
+ghost use Prim.Native.Nat.{_≤_};
 ghost use Rattle.phonon.specs.Sets as Sets;
 ghost use Rattle.phonon.specs.Limits.{entriesOf};
 ghost use Rattle.phonon.specs.Refusal.{measuresOk, lowest, aloneTests, totalsRefusal};
@@ -37,19 +34,19 @@ fn entries_of(weights: Weights, first: usize, bands: usize) -> usize
 // The measures have been checked before.
 fn alone_number(
     m: Measures,
-    z: Sizes,
     n: usize,
     frequencies: &[f64],
     cutoff: f64,
     flags: &[u8],
     strengths: &[f64],
 ) -> u8
-    requires { ⌜ (measuresOk m ≡ true) × (z .frequencies ≡ m .grid * Sets.bandsOf m) × (z .slots ≡ Sets.slots m) ⌝ }
+    requires { ⌜ measuresOk m ≡ true ⌝ }
     ensures { λ r. ⌜ r ≡ lowest (aloneTests m n (now (frequencies .entry)) cutoff (now (flags .entry)) (now (strengths .entry))) ⌝ }
 {
-    let sized = (frequencies.len() == z.frequencies)
+    let bands = 3 * m.atoms;
+    let sized = (frequencies.len() == m.grid * bands)
         & (flags.len() == n)
-        & (strengths.len() == z.slots);
+        & (strengths.len() == m.first * bands * bands);
     if !sized {
         return 2;
     }
@@ -101,11 +98,11 @@ pub fn check(
         grid: m.grid,
         vectors: 1,
     };
-    let Measured::Within(z) = check_measures(all, Form::Compact) else {
+    if !measures_ok(all) {
         return Checked::Bad(1);
-    };
+    }
     let entries = entries_of(weights, m.first, 3 * m.atoms);
-    let alone = alone_number(all, z, entries, frequencies, cutoff, flags, strengths);
+    let alone = alone_number(all, entries, frequencies, cutoff, flags, strengths);
     let points = points_number(m.grid, &triplet);
     let rest = bath_number(entries, m.first, bath, first, second, totals.len());
     checked_of(lower_of(alone, lower_of(points, rest)), all)

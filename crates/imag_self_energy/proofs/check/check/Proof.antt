@@ -1,58 +1,47 @@
 -- The groups of tests each gave a number; the lowest is the refusal.
 use Prim.Native.Nat.{_*_}
 use native.Mathlib.Omega.{arith}
-use mathlib.Core.Path.{_≡_, refl, sym, ap, _∙_}
+use mathlib.Core.Path.{_≡_, refl}
 use mathlib.Core.Bool.{true}
 use borrow.Author.Needs.{needs}
-use Rattle.phonon.specs.declared.Form.the-variants.{Compact}
 use Rattle.phonon.specs.Sets.{measuresOf}
-use Rattle.phonon.specs.Limits.{sizesOf}
 use Rattle.phonon.specs.Refusal.{measuresOk, totalsRefusal}
 use Rattle.phonon.proofs.Lowest.{stop, join3}
 use Rattle.phonon.proofs.Accepted.{measured-facts}
-use Rattle.checks.proofs.MeasureLaws.{within-told, beyond-told}
+use Rattle.checks.proofs.Laws.{told-good, told-bad}
 use Rattle.checks.proofs.AnswerLaws.{refused, checked-is}
 use Rattle.imag_self_energy.proofs.check.check.Statement.{statement}
 use Rattle.imag_self_energy.proofs.check.check.Tie as tie
 
 -- the start, from the place where the measures are good
-abbrev start : tie.After-known-told → tie.Start
-start c = c .before .before .before .before .before .before .before .before .before .before
+abbrev start : tie.Else1 → tie.Start
+start c = c .before .before .before .before .before .before .before .before
 
-good-measures : (c : tie.After-known-told) → (measuresOk (measuresOf (start c .args .m)) ≡ true) × (c .before .z .given .0 .0 ≡ sizesOf (measuresOf (start c .args .m)) Compact)
-good-measures c = within-told _ _ _ (sym (c .before .before .before .check-measures .ensures) ∙ c .before .z .given .1)
+good-measures : (c : tie.Else1) → measuresOk (measuresOf (start c .args .m)) ≡ true
+good-measures c = told-good (c .before .measures-ok .ensures) (c .if1 .left)
 
-check-measures-requires : tie.Need-check-measures-requires
-check-measures-requires c κs = search needs
-
-enum-known-z : tie.Need-enum-known-z
-enum-known-z c = search needs
-
-enum-told : tie.Need-enum-told
-enum-told c = search needs
+measures-ok-requires : tie.Need-measures-ok-requires
+measures-ok-requires c κs = search needs
 
 returns : tie.Need-returns
 unfolding totalsRefusal
-returns c = refused _ (omega arith) (stop 0 _ refl (beyond-told _ _ (sym (c .before .before .check-measures .ensures) ∙ c .enum-told .given .1)))
+returns c = refused _ (omega arith) (stop 0 _ refl (told-bad (c .before .measures-ok .ensures) (c .if1 .taken)))
 
 mul-entries-of : tie.Need-mul-entries-of
-mul-entries-of c = let m = measured-facts _ (good-measures (c .before) .0) in omega (arith, m .atoms-most)
+mul-entries-of c = let m = measured-facts _ (good-measures (c .before)) in omega (arith, m .atoms-most)
 
 entries-of-requires : tie.Need-entries-of-requires
-entries-of-requires c κs = let m = measured-facts _ (good-measures (c .before) .0) in (omega (arith, m .atoms-most, m .first-most), omega (arith, m .atoms-most))
+entries-of-requires c κs = let m = measured-facts _ (good-measures (c .before)) in (omega (arith, m .atoms-most, m .first-most), omega (arith, m .atoms-most))
 
 alone-number-requires : tie.Need-alone-number-requires
-unfolding sizesOf
-alone-number-requires c κs =
-    let g = good-measures (c .before .before) in
-    (g .0, ap (λ z. z .frequencies) (g .1), ap (λ z. z .slots) (g .1))
+alone-number-requires c κs = good-measures (c .before .before)
 
 slice-aggregate-points-number : tie.Need-slice-aggregate-points-number
 slice-aggregate-points-number c = let g = start (c .before .before .before .before) .good .1 .1 .0 in search needs
 
 points-number-requires : tie.Need-points-number-requires
 points-number-requires c κs =
-    let m = measured-facts _ (good-measures (c .before .before .before .before) .0) in
+    let m = measured-facts _ (good-measures (c .before .before .before .before)) in
     (m .grid, omega (arith, m .grid-most))
 
 bath-number-requires : tie.Need-bath-number-requires
@@ -82,9 +71,7 @@ pub check-spec : {M : Type 1} → statement M
 check-spec =
     tie.close
     (tie.spec
-    check-measures-requires
-    enum-known-z
-    enum-told
+    measures-ok-requires
     returns
     mul-entries-of
     entries-of-requires

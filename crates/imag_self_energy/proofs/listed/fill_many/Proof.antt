@@ -1,11 +1,12 @@
 -- The arrays are long enough.
-use Prim.Native.Nat.{ℕ}
+use Prim.Native.Nat.{ℕ, _*_}
 use mathlib.Core.Path.{_≡_}
 use native.Mathlib.Nat.{mul-le-mul}
 use native.Mathlib.Omega.{arith}
 use lib.ListN.{length, replicate, length-replicate}
 use Rattle.phonon.specs.Number.{f0}
 use borrow.Author.Needs.{needs}
+use Rattle.imag_self_energy.specs.Bands.{mostBands}
 use Rattle.imag_self_energy.proofs.listed.fill_many.Statement.{statement}
 use Rattle.imag_self_energy.proofs.listed.fill_many.Tie as tie
 
@@ -28,8 +29,8 @@ fill-in-requires : tie.Need-fill-in-requires
 fill-in-requires c κs =
     let p = c .before .before .before .before .before .before .before .before .before .before .before .pre in
     let q = mul-le-mul (p .few) (p .few) in
-    let l : length (replicate {A = ℕ} 576 0) ≡ 576 = length-replicate {A = ℕ} 576 0 in
-    let f : length (replicate 576 f0) ≡ 576 = length-replicate 576 f0 in
+    let l : length (replicate {A = ℕ} (mostBands * mostBands) 0) ≡ mostBands * mostBands = length-replicate {A = ℕ} (mostBands * mostBands) 0 in
+    let f : length (replicate (mostBands * mostBands) f0) ≡ mostBands * mostBands = length-replicate (mostBands * mostBands) f0 in
     (p, omega (arith, q, l), omega (arith, q, l), omega (arith, q, l), omega (arith, q, f), omega (arith, q, f))
 
 same-length : tie.Need-same-length
