@@ -29,6 +29,8 @@
  *
  * - A pointer is aligned for its type and has as many entries behind it as the length that follows it. With
  *   length 0 it is not followed, and may be null.
+ * - mesh, matrix and triplet have no length beside them: behind the pointer stand 3, 9 and 3 entries, and it is never
+ *   null, whatever the call answers.
  * - An array that is written (strengths, totals, work; not the strengths of totals alone) shares no entry with
  *   any other array of the call. Arrays that are only read may share entries.
  * - No other thread changes the arrays during the call, nor looks at those that are written.
@@ -52,7 +54,7 @@
  *                    vector that multiplicity names, or of the sum of the three q (symmetrized: in any of the
  *                    six orders of the legs) and the first vector of supercell atom p2s[i] and atom 0
  *                    (phasesOk in crates/phonon/specs/Refusal.antt)
- *   255  unreadable  a choice is neither 0 nor 1, mesh or triplet has not 3 entries, or matrix not 9
+ *   255  unreadable  a choice is neither 0 nor 1
  *
  * 255 comes before all others. Of 1 to 9 the lowest that applies is given, over the whole set. A function
  * tests what it is handed: only those with a bath give 8, and totals alone never gives 5, 6 and 9.
@@ -89,8 +91,8 @@
  *
  * ARRAYS
  *
- * Each is followed by its length in entries, `NAME_length`. The length must be the one below, else 2 (mesh, matrix,
- * triplet: else 255). In brackets behind the values stands the answer to others. A byte is set if it is not 0.
+ * Each but mesh, matrix and triplet is followed by its length in entries, `NAME_length`. The length must be the one
+ * below, else 2. In brackets behind the values stands the answer to others. A byte is set if it is not 0.
  *
  *   name            length      entry, and what it holds                                   values
  *   mesh            3           [d]                          divisions in direction d       1 to 4,096 (5)
@@ -204,12 +206,9 @@ uint8_t wirambolo_get_interaction_at_triplet(
     double cutoff,
     uint8_t form,
     uint8_t symmetry,
-    const int64_t *mesh,
-    size_t mesh_length,
-    const int64_t *matrix,
-    size_t matrix_length,
-    const int64_t *triplet,
-    size_t triplet_length,
+    const int64_t mesh[3],
+    const int64_t matrix[9],
+    const int64_t triplet[3],
     const int64_t *addresses,
     size_t addresses_length,
     const double *vectors,
@@ -257,10 +256,8 @@ uint8_t wirambolo_get_interaction(
     double cutoff,
     uint8_t form,
     uint8_t symmetry,
-    const int64_t *mesh,
-    size_t mesh_length,
-    const int64_t *matrix,
-    size_t matrix_length,
+    const int64_t mesh[3],
+    const int64_t matrix[9],
     size_t list,
     const int64_t *triplets,
     size_t triplets_length,
@@ -309,8 +306,7 @@ uint8_t wirambolo_imag_self_energy_at_triplet(
     size_t first,
     size_t grid,
     uint8_t weights,
-    const int64_t *triplet,
-    size_t triplet_length,
+    const int64_t triplet[3],
     const double *frequencies,
     size_t frequencies_length,
     double cutoff,
@@ -343,12 +339,9 @@ uint8_t wirambolo_joined_at_triplet(
     double cutoff,
     uint8_t form,
     uint8_t symmetry,
-    const int64_t *mesh,
-    size_t mesh_length,
-    const int64_t *matrix,
-    size_t matrix_length,
-    const int64_t *triplet,
-    size_t triplet_length,
+    const int64_t mesh[3],
+    const int64_t matrix[9],
+    const int64_t triplet[3],
     const int64_t *addresses,
     size_t addresses_length,
     const double *vectors,

@@ -25,7 +25,7 @@ enum {
     SLOTS = FIRST * BANDS * BANDS
 };
 
-/* An array as the functions take it: the pointer, and then the length. */
+/* An array of any length as the functions take it: the pointer, and then the length. */
 #define SLICE(array) (array), sizeof (array) / sizeof (array)[0]
 
 /* The bits of x; every NaN counts as one. */
@@ -101,7 +101,7 @@ int main(void)
     answer = wirambolo_joined_at_triplet(
         ATOMS, SUPERCELL, FIRST, GRID, VECTORS,
         WIRAMBOLO_PLAIN, 0.5, WIRAMBOLO_COMPACT, WIRAMBOLO_SYMMETRY_OFF,
-        SLICE(mesh), SLICE(matrix), SLICE(triplet), SLICE(addresses),
+        mesh, matrix, triplet, SLICE(addresses),
         SLICE(vectors), SLICE(multiplicity), SLICE(p2s), SLICE(s2p), SLICE(masses),
         SLICE(bands), SLICE(frequencies), SLICE(eigenvectors),
         SLICE(shortest), SLICE(nonzero), SLICE(constants), SLICE(flags),

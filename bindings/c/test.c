@@ -48,9 +48,9 @@ struct set {
     double first_weights[MOST_SLOTS], second_weights[MOST_SLOTS], read_strengths[MOST_SLOTS];
     uint8_t shortest[P * S * S], nonzero[S * S * S], flags[LIST * MOST_SLOTS];
     double strengths[LIST * MOST_SLOTS], totals[F], work[MOST_WORK];
-    /* what is handed over as the length of each; slots: of the arrays with an entry for each slot of one triplet */
+    /* what is handed over as the length of each that has one; slots: of the arrays with an entry for each slot of one triplet */
     struct {
-        size_t mesh, matrix, triplet, triplets, addresses, multiplicity, p2s, s2p, bands;
+        size_t triplets, addresses, multiplicity, p2s, s2p, bands;
         size_t vectors, masses, frequencies, eigenvectors, constants, shortest, nonzero, slots, totals, work;
     } lengths;
 };
@@ -74,8 +74,6 @@ static struct set sized(size_t atoms, size_t supercell, size_t first, size_t gri
     s.vectors_count = vectors_count;
     s.list = LIST;
     s.form = form;
-    s.lengths.mesh = s.lengths.triplet = 3;
-    s.lengths.matrix = 9;
     s.lengths.triplets = wirambolo_triplets_length(LIST);
     s.lengths.addresses = wirambolo_addresses_length(grid);
     s.lengths.vectors = wirambolo_vectors_length(vectors_count);
@@ -187,7 +185,7 @@ static struct set crystal(uint8_t form)
 /* What stands before the triplets, and what stands between them and the flags. */
 #define BEFORE(s) \
     (s)->atoms, (s)->supercell, (s)->first, (s)->grid, (s)->vectors_count, (s)->anchoring, (s)->cutoff, (s)->form, \
-    (s)->symmetry, LENT(s, mesh), LENT(s, matrix)
+    (s)->symmetry, (s)->mesh, (s)->matrix
 #define TABLES(s) \
     LENT(s, addresses), LENT(s, vectors), LENT(s, multiplicity), LENT(s, p2s), LENT(s, s2p), LENT(s, masses), \
     LENT(s, bands), LENT(s, frequencies), LENT(s, eigenvectors), LENT(s, shortest), LENT(s, nonzero), LENT(s, constants)
@@ -195,7 +193,7 @@ static struct set crystal(uint8_t form)
 static uint8_t triplet_door(struct set *s)
 {
     return wirambolo_get_interaction_at_triplet(
-        BEFORE(s), LENT(s, triplet), TABLES(s), SLOTTED(s, flags), SLOTTED(s, strengths), LENT(s, work));
+        BEFORE(s), s->triplet, TABLES(s), SLOTTED(s, flags), SLOTTED(s, strengths), LENT(s, work));
 }
 
 static uint8_t list_door(struct set *s)
@@ -209,7 +207,7 @@ static uint8_t totals_door(struct set *s)
 {
     size_t entries = s->weights == WIRAMBOLO_AT_FREQUENCY_POINT ? wirambolo_pairs(s->atoms) : s->lengths.slots;
     return wirambolo_imag_self_energy_at_triplet(
-        s->atoms, s->first, s->grid, s->weights, LENT(s, triplet), LENT(s, frequencies), s->cutoff, s->flags, entries,
+        s->atoms, s->first, s->grid, s->weights, s->triplet, LENT(s, frequencies), s->cutoff, s->flags, entries,
         SLOTTED(s, read_strengths), s->weight, s->temperature, s->first_weights, entries, s->second_weights, entries,
         LENT(s, totals));
 }
@@ -217,7 +215,7 @@ static uint8_t totals_door(struct set *s)
 static uint8_t joined_door(struct set *s)
 {
     return wirambolo_joined_at_triplet(
-        BEFORE(s), LENT(s, triplet), TABLES(s), SLOTTED(s, flags), s->weight, s->temperature, SLOTTED(s, first_weights),
+        BEFORE(s), s->triplet, TABLES(s), SLOTTED(s, flags), s->weight, s->temperature, SLOTTED(s, first_weights),
         SLOTTED(s, second_weights), SLOTTED(s, strengths), LENT(s, totals), LENT(s, work));
 }
 
@@ -492,16 +490,11 @@ static void unreadable(void)
     CHECK(refuses(joined_door, s, WIRAMBOLO_UNREADABLE));
     s = cell_u(), s.weights = 2;
     CHECK(refuses(totals_door, s, WIRAMBOLO_UNREADABLE));
-    s = cell_u(), s.lengths.mesh = 2;
-    CHECK(refuses(triplet_door, s, WIRAMBOLO_UNREADABLE));
-    s = cell_u(), s.lengths.matrix = 8;
-    CHECK(refuses(list_door, s, WIRAMBOLO_UNREADABLE));
-    s = cell_u(), s.lengths.triplet = 0;
-    CHECK(refuses(joined_door, s, WIRAMBOLO_UNREADABLE));
-    CHECK(refuses(totals_door, s, WIRAMBOLO_UNREADABLE));
     /* before 1 */
-    s = cell_u(), s.lengths.triplet = 2, s.atoms = 0;
+    s = cell_u(), s.form = 2, s.atoms = 0;
     CHECK(refuses(joined_door, s, WIRAMBOLO_UNREADABLE));
+    s = cell_u(), s.weights = 128, s.grid = 0;
+    CHECK(refuses(totals_door, s, WIRAMBOLO_UNREADABLE));
 }
 
 /* Null pointers of length 0. */
@@ -509,20 +502,20 @@ static void null_pointers(void)
 {
     static const int64_t ones[9] = {1, 1, 1, 1, 1, 1, 1, 1, 1};
     CHECK(wirambolo_joined_at_triplet(
-              1, 1, 1, 1, 1, 0, 0.0, 0, 0, ones, 3, ones, 9, ones, 3, NULL, 0, NULL, 0, NULL, 0, NULL, 0, NULL, 0, NULL, 0,
+              1, 1, 1, 1, 1, 0, 0.0, 0, 0, ones, ones, ones, NULL, 0, NULL, 0, NULL, 0, NULL, 0, NULL, 0, NULL, 0,
               NULL, 0, NULL, 0, NULL, 0, NULL, 0, NULL, 0, NULL, 0, NULL, 0, 1, 0.0, NULL, 0, NULL, 0, NULL, 0, NULL, 0,
               NULL, 0)
           == WIRAMBOLO_LENGTH);
     CHECK(wirambolo_get_interaction_at_triplet(
-              1, 1, 1, 1, 1, 0, 0.0, 0, 0, NULL, 0, NULL, 0, NULL, 0, NULL, 0, NULL, 0, NULL, 0, NULL, 0, NULL, 0, NULL, 0,
+              1, 1, 1, 1, 1, 0, 0.0, 0, 0, ones, ones, ones, NULL, 0, NULL, 0, NULL, 0, NULL, 0, NULL, 0, NULL, 0,
               NULL, 0, NULL, 0, NULL, 0, NULL, 0, NULL, 0, NULL, 0, NULL, 0, NULL, 0, NULL, 0)
-          == WIRAMBOLO_UNREADABLE);
+          == WIRAMBOLO_LENGTH);
     CHECK(wirambolo_get_interaction(
-              1, 1, 1, 1, 1, 0, 0.0, 0, 0, ones, 3, ones, 9, 1, NULL, 0, NULL, 0, NULL, 0, NULL, 0, NULL, 0, NULL, 0, NULL, 0,
+              1, 1, 1, 1, 1, 0, 0.0, 0, 0, ones, ones, 1, NULL, 0, NULL, 0, NULL, 0, NULL, 0, NULL, 0, NULL, 0, NULL, 0,
               NULL, 0, NULL, 0, NULL, 0, NULL, 0, NULL, 0, NULL, 0, NULL, 0, NULL, 0, NULL, 0)
           == WIRAMBOLO_LENGTH);
     CHECK(wirambolo_imag_self_energy_at_triplet(
-              1, 1, 1, 0, ones, 3, NULL, 0, 0.0, NULL, 0, NULL, 0, 1, 0.0, NULL, 0, NULL, 0, NULL, 0)
+              1, 1, 1, 0, ones, NULL, 0, 0.0, NULL, 0, NULL, 0, 1, 0.0, NULL, 0, NULL, 0, NULL, 0)
           == WIRAMBOLO_LENGTH);
 }
 

@@ -251,8 +251,7 @@ class Tests(unittest.TestCase):
             (8, {"weight": 0}),
             (9, {"addresses": [1, 0, 0], "vectors": [200000.0, 0.0, 0.0]}),
             (255, {"form": 2}),
-            (255, {"matrix": [1] * 8}),
-            (255, {"triplet": [], "atoms": 0}),
+            (255, {"anchoring": 255, "atoms": 0}),
         ]
         for answer, change in cases:
             with self.subTest(answer=answer, change=change.keys()):
@@ -262,14 +261,25 @@ class Tests(unittest.TestCase):
         """One entry less in each slice, and one more but for work."""
         for name in JOINED:
             whole = crystal()[name]
-            if not hasattr(whole, "__len__"):
+            if not hasattr(whole, "__len__") or name in ("mesh", "matrix", "triplet"):
                 continue
-            fixed = name in ("mesh", "matrix", "triplet")
             shorter = -3 if name == "work" else -1
-            self.untouched(255 if fixed else 2, {**crystal(), name: whole[:shorter]})
+            self.untouched(2, {**crystal(), name: whole[:shorter]})
             if name != "work":
-                self.untouched(255 if fixed else 2, {**crystal(), name: whole + whole[:1]})
+                self.untouched(2, {**crystal(), name: whole + whole[:1]})
         self.assertEqual(self.worked(crystal())[0], 0)
+
+    def test_arrays(self):
+        """Mesh, matrix and triplet of another length are handed to no function, whatever else is wrong."""
+        for name, length in (("mesh", 3), ("matrix", 9), ("triplet", 3)):
+            for wrong in (0, length - 1, length + 1, 16):
+                for make in (list, lambda numbers: array("q", numbers)):
+                    cell = {**crystal(), "form": 2, name: make([1] * wrong)}
+                    message = f"^{name}: {length} numbers are wanted, not {wrong}$"
+                    with self.subTest(name=name, wrong=wrong), self.assertRaisesRegex(ValueError, message):
+                        self.worked(cell)
+        rows = memoryview(array("q", crystal()["matrix"])).cast("B").cast("q", shape=[3, 3])
+        self.assertEqual(self.worked({**crystal(), "matrix": rows})[0], 0)
 
     def test_doors_agree(self):
         """Joined is one triplet and totals alone; a list of two is each of them."""

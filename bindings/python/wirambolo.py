@@ -14,11 +14,12 @@ it gives, and take their parameters by name:
 
 What each parameter holds, its length and its limits stand in include/wirambolo.h. A slice for reading is a list or tuple of
 numbers, or anything with a contiguous and aligned buffer of the right type (array.array, bytes, a numpy array); no length is handed
-over, it is that of the slice. A slice that is written is such a buffer: array.array('d', ...) or a numpy array of f64.
+over, it is that of the slice. mesh, matrix and triplet are such slices of 3, 9 and 3 numbers. A slice that is written is such a buffer:
+array.array('d', ...) or a numpy array of f64.
 
-A set that is turned away raises Refused, whose `number` is the answer; nothing is changed then. What cannot be handed over raises
-TypeError, OverflowError or ValueError, which names the parameter. During a call no other thread may change the slices. The machine
-must round to nearest and keep subnormal numbers, as it does when Python starts.
+A set that is turned away raises Refused, whose `number` is the answer; nothing is changed then. What cannot be handed over, a mesh of two
+numbers too, raises TypeError, OverflowError or ValueError, which names the parameter. During a call no other thread may change the
+slices. The machine must round to nearest and keep subnormal numbers, as it does when Python starts.
 """
 
 import array
@@ -42,10 +43,10 @@ _SETTINGS = [
     ("cutoff", "f64"),
     ("form", "u8"),
     ("symmetry", "u8"),
-    ("mesh", "&[i64]"),
-    ("matrix", "&[i64]"),
+    ("mesh", "&[i64; 3]"),
+    ("matrix", "&[i64; 9]"),
 ]
-_TRIPLET = [("triplet", "&[i64]")]
+_TRIPLET = [("triplet", "&[i64; 3]")]
 _LIST = [("list", "usize"), ("triplets", "&[i64]")]
 _TABLES = [
     ("addresses", "&[i64]"),
@@ -80,7 +81,7 @@ SIGNATURES = {
         ("first", "usize"),
         ("grid", "usize"),
         ("weights", "u8"),
-        ("triplet", "&[i64]"),
+        ("triplet", "&[i64; 3]"),
         ("frequencies", "&[f64]"),
         ("cutoff", "f64"),
         ("flags", "&[u8]"),
@@ -109,7 +110,7 @@ REFUSALS = {
     7: "cutoff: the cutoff is below zero",
     8: "bath: the weight is beyond its limits, or the temperature has its sign bit set",
     9: "phase: a phase is beyond ±1,048,576 or not finite",
-    255: "unreadable: a choice is unknown, or mesh, matrix or triplet has not 3, 9, 3 entries",
+    255: "unreadable: a choice is neither 0 nor 1",
 }
 
 
@@ -153,17 +154,24 @@ _NATIVE = "@=<" if sys.byteorder == "little" else "@=>!"
 
 
 def _entry(kind):
-    """The type of a slice's entries; None of a single value."""
-    return kind[kind.index("[") + 1 : -1] if kind.startswith("&") else None
+    """The type of the entries of a slice or an array; None of a single value."""
+    return kind[kind.index("[") + 1 : -1].split(";")[0] if kind.startswith("&") else None
+
+
+def _fixed(kind):
+    """The length of an array, which its type has; None of a slice, whose length is handed over."""
+    return int(kind[kind.index(";") + 1 : -1]) if ";" in kind else None
 
 
 def parameters(name):
-    """What the function takes, in order: name and type. A slice is a pointer and then its length."""
+    """What the function takes, in order: name and type. A slice is a pointer and then its length, an array a pointer."""
     all_of_it = []
     for parameter, kind in SIGNATURES[name]:
         entry = _entry(kind)
         if entry is None:
             all_of_it.append((parameter, _TYPES[kind]))
+        elif _fixed(kind) is not None:
+            all_of_it.append((parameter, ctypes.POINTER(_TYPES[entry] * _fixed(kind))))
         else:
             all_of_it.append((parameter, ctypes.POINTER(_TYPES[entry])))
             all_of_it.append((parameter + "_length", ctypes.c_size_t))
@@ -199,7 +207,7 @@ def _single(parameter, kind, value):
 
 
 def _slice(parameter, kind, value):
-    """The slice as an array of ctypes: the caller's own memory if it is written."""
+    """The slice or array as an array of ctypes: the caller's own memory if it is written."""
     entry = _entry(kind)
     written = kind.startswith("&mut")
     try:
@@ -213,7 +221,10 @@ def _slice(parameter, kind, value):
         raise TypeError(f"{parameter}: a contiguous buffer of {entry} is wanted")
     if written and view.readonly:
         raise TypeError(f"{parameter}: the buffer is only for reading")
-    kind_of_array = _TYPES[entry] * (view.nbytes // size)
+    length = view.nbytes // size
+    if _fixed(kind) not in (None, length):
+        raise ValueError(f"{parameter}: {_fixed(kind)} numbers are wanted, not {length}")
+    kind_of_array = _TYPES[entry] * length
     # A copy is aligned. An empty buffer may begin anywhere.
     if view.readonly or view.nbytes == 0:
         return kind_of_array.from_buffer_copy(view)
@@ -274,7 +285,7 @@ class Library:
             if kind.startswith("&"):
                 one = _slice(parameter, kind, value)
                 lent.append((parameter, kind.startswith("&mut"), one))
-                values += [one, len(one)]
+                values += [one] if _fixed(kind) is not None else [one, len(one)]
             else:
                 values.append(_single(parameter, kind, value))
         _check_apart(lent)

@@ -1,13 +1,13 @@
-//! The four functions on numbers and slices, as the library takes them: choices are numbers and arrays are slices, so that a call can also
-//! be one that cannot be read, which is answered 255 ([`Refusal::Unreadable`](crate::Refusal::Unreadable)). For callers whose choices come
-//! as numbers, from a file or another language; the functions at the crate's root have types for them.
+//! The four functions on numbers, arrays and slices, as the library takes them: choices are numbers, so that a call can also have one
+//! that is no choice, which is answered 255 ([`Refusal::Unreadable`](crate::Refusal::Unreadable)). For callers whose choices come as
+//! numbers, from a file or another language; the functions at the crate's root have types for them.
 //!
 //! The answer is 0 for an accepted set, else the number of a [`Refusal`](crate::Refusal), and then no buffer is changed.
 
 use crate::raw;
 use crate::sets::{Bath, Measures, TotalsMeasures};
 
-/// [`Tables`](crate::Tables) with choices as numbers and arrays as slices. Layouts and lengths stand there.
+/// [`Tables`](crate::Tables) with choices as numbers and mesh and q matrix by reference. Layouts and lengths stand there.
 #[derive(Clone, Copy, Debug, PartialEq)]
 pub struct FlatTables<'a> {
     /// P, S, F, G and V.
@@ -20,10 +20,10 @@ pub struct FlatTables<'a> {
     pub form: u8,
     /// 0 off, 1 symmetrized.
     pub symmetry: u8,
-    /// Divisions of the mesh: 3 entries.
-    pub mesh: &'a [i64],
-    /// The q matrix by rows: 9 entries.
-    pub matrix: &'a [i64],
+    /// Divisions of the mesh.
+    pub mesh: &'a [i64; 3],
+    /// The q matrix by rows.
+    pub matrix: &'a [i64; 9],
     /// Addresses of the grid points.
     pub addresses: &'a [i64],
     /// Shortest vectors.
@@ -50,15 +50,15 @@ pub struct FlatTables<'a> {
     pub constants: &'a [f64],
 }
 
-/// [`TotalsSet`](crate::TotalsSet) with the form of the weights as a number and the triplet as a slice. Layouts and lengths stand there.
+/// [`TotalsSet`](crate::TotalsSet) with the form of the weights as a number and the triplet by reference. Layouts and lengths stand there.
 #[derive(Clone, Copy, Debug, PartialEq)]
 pub struct FlatTotals<'a> {
     /// P, F and G.
     pub measures: TotalsMeasures,
     /// 0 per slot, 1 at a frequency point.
     pub weights: u8,
-    /// Grid point of each leg: 3 entries.
-    pub triplet: &'a [i64],
+    /// Grid point of each leg.
+    pub triplet: &'a [i64; 3],
     /// Frequency of each band at each grid point.
     pub frequencies: &'a [f64],
     /// Frequencies at or below it are cut off.
@@ -75,12 +75,13 @@ pub struct FlatTotals<'a> {
     pub second_weights: &'a [f64],
 }
 
-/// Calls a function of [`raw`]: a slice after `&` or `&mut` passes as its pointer and its length, another argument as it is.
+/// Calls a function of [`raw`]: a slice after `&` or `&mut` passes as its pointer and its length, another argument as it is, a reference
+/// to an array as a pointer to it.
 macro_rules! call {
     ($function:path; $($argument:tt)*) => { call!(@ $function, []; $($argument)*) };
     (@ $function:path, [$($done:expr,)*];) => {
-        // Safety: each pointer goes with the length of its own slice, which outlives the call, and those that are written are
-        // borrowed by nobody else. The functions have no precondition.
+        // Safety: each pointer goes with the length of its own slice, or is a reference to an array of its type; slices and arrays outlive
+        // the call, and those that are written are borrowed by nobody else. The functions have no precondition.
         unsafe { $function($($done),*) }
     };
     (@ $function:path, [$($done:expr,)*]; &mut $slice:expr, $($rest:tt)*) => {
@@ -108,8 +109,8 @@ macro_rules! call_with_tables {
             $t.cutoff,
             $t.form,
             $t.symmetry,
-            &$t.mesh,
-            &$t.matrix,
+            $t.mesh,
+            $t.matrix,
             $($triplets)*
             &$t.addresses,
             &$t.vectors,
@@ -131,13 +132,13 @@ macro_rules! call_with_tables {
 /// One triplet.
 pub fn get_interaction_at_triplet(
     t: &FlatTables<'_>,
-    triplet: &[i64],
+    triplet: &[i64; 3],
     flags: &[u8],
     strengths: &mut [f64],
     work: &mut [f64],
 ) -> u8 {
     call_with_tables!(
-        raw::wirambolo_get_interaction_at_triplet, t, [&triplet,];
+        raw::wirambolo_get_interaction_at_triplet, t, [triplet,];
         &flags,
         &mut strengths,
         &mut work,
@@ -169,7 +170,7 @@ pub fn imag_self_energy_at_triplet(s: &FlatTotals<'_>, totals: &mut [f64]) -> u8
         s.measures.first,
         s.measures.grid,
         s.weights,
-        &s.triplet,
+        s.triplet,
         &s.frequencies,
         s.cutoff,
         &s.flags,
@@ -186,7 +187,7 @@ pub fn imag_self_energy_at_triplet(s: &FlatTotals<'_>, totals: &mut [f64]) -> u8
 #[allow(clippy::too_many_arguments)]
 pub fn joined_at_triplet(
     t: &FlatTables<'_>,
-    triplet: &[i64],
+    triplet: &[i64; 3],
     flags: &[u8],
     bath: Bath,
     first_weights: &[f64],
@@ -196,7 +197,7 @@ pub fn joined_at_triplet(
     work: &mut [f64],
 ) -> u8 {
     call_with_tables!(
-        raw::wirambolo_joined_at_triplet, t, [&triplet,];
+        raw::wirambolo_joined_at_triplet, t, [triplet,];
         &flags,
         bath.weight,
         bath.temperature,

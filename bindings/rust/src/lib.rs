@@ -11,7 +11,7 @@
 //! may be handed in: it is worked through, or turned away with a [`Refusal`], and then no buffer is changed. No call ends otherwise,
 //! goes out of range or runs on. Strengths and totals have the bits that the definitions give (`crates/phonon/specs`), any NaN
 //! counted as equal to any other. This is proved of the library's functions; this crate hands slices on to them. [`flat`] has the same four on
-//! plain numbers and slices, [`raw`] the library's own declarations.
+//! plain numbers, arrays and slices, [`raw`] the library's own declarations.
 //!
 //! The machine must round to nearest and keep subnormal numbers, as it does when a Rust program starts.
 //!

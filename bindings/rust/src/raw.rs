@@ -1,7 +1,9 @@
-//! The static library's four functions as they are. A slice passes as a pointer and then a length.
+//! The static library's four functions as they are. A slice passes as a pointer and then a length, an array of fixed length as a pointer
+//! alone.
 //!
 //! What they promise and ask of the caller stands in `include/wirambolo.h`. There is no precondition on values, contents and
-//! lengths; every pointer must be good for its length, and what is written must be lent to nobody else.
+//! lengths; every pointer must be good for its length, or for the array that it points to, and what is written must be lent to nobody
+//! else.
 
 #[link(name = "wirambolo_c", kind = "static")]
 extern "C" {
@@ -16,12 +18,9 @@ extern "C" {
         cutoff: f64,
         form: u8,
         symmetry: u8,
-        mesh: *const i64,
-        mesh_length: usize,
-        matrix: *const i64,
-        matrix_length: usize,
-        triplet: *const i64,
-        triplet_length: usize,
+        mesh: *const [i64; 3],
+        matrix: *const [i64; 9],
+        triplet: *const [i64; 3],
         addresses: *const i64,
         addresses_length: usize,
         vectors: *const f64,
@@ -65,10 +64,8 @@ extern "C" {
         cutoff: f64,
         form: u8,
         symmetry: u8,
-        mesh: *const i64,
-        mesh_length: usize,
-        matrix: *const i64,
-        matrix_length: usize,
+        mesh: *const [i64; 3],
+        matrix: *const [i64; 9],
         list: usize,
         triplets: *const i64,
         triplets_length: usize,
@@ -110,8 +107,7 @@ extern "C" {
         first: usize,
         grid: usize,
         weights: u8,
-        triplet: *const i64,
-        triplet_length: usize,
+        triplet: *const [i64; 3],
         frequencies: *const f64,
         frequencies_length: usize,
         cutoff: f64,
@@ -140,12 +136,9 @@ extern "C" {
         cutoff: f64,
         form: u8,
         symmetry: u8,
-        mesh: *const i64,
-        mesh_length: usize,
-        matrix: *const i64,
-        matrix_length: usize,
-        triplet: *const i64,
-        triplet_length: usize,
+        mesh: *const [i64; 3],
+        matrix: *const [i64; 9],
+        triplet: *const [i64; 3],
         addresses: *const i64,
         addresses_length: usize,
         vectors: *const f64,

@@ -27,8 +27,8 @@ pub enum Refusal {
     Bath = 8,
     /// A phase is beyond ±1,048,576 or not finite.
     Phase = 9,
-    /// A choice is neither 0 nor 1, or mesh, matrix or triplet has not 3, 9, 3 entries. Only calls of [`flat`](crate::flat) can be
-    /// answered so: the types of the safe functions admit no such call.
+    /// A choice is neither 0 nor 1. Only calls of [`flat`](crate::flat) can be answered so: the types of the safe functions admit no such
+    /// call.
     Unreadable = 255,
 }
 
@@ -81,7 +81,7 @@ impl Refusal {
             Cutoff => "the cutoff is below zero",
             Bath => "the weight is beyond its limits, or the temperature has its sign bit set",
             Phase => "a phase is beyond ±1,048,576 or not finite",
-            Unreadable => "a choice is unknown, or an array of fixed length has another",
+            Unreadable => "a choice is neither 0 nor 1",
         }
     }
 }

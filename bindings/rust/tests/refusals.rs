@@ -268,18 +268,18 @@ fn numbers_and_words() {
     );
 }
 
-/// A choice that is not known, and a triplet of two entries: only `flat` can be called so.
+/// A choice that is not known, before measures that are refused too: only `flat` can be called so.
 #[test]
 fn unreadable() {
-    for (weights, length) in [(2, 3), (0, 2)] {
+    for (weights, atoms) in [(2, 1), (255, 0)] {
         let set = FlatTotals {
             measures: TotalsMeasures {
-                atoms: 1,
+                atoms,
                 first: 3,
                 grid: 1,
             },
             weights,
-            triplet: &[0; 3][..length],
+            triplet: &[0; 3],
             frequencies: &[0.0; 3],
             cutoff: 0.0,
             flags: &[0; 27],

@@ -1,11 +1,9 @@
--- What a call from C means: choices are numbers, arrays are slices, and the answer is one number.
+-- What a call from C means: choices are numbers, and the answer is one number.
 use Prim.Native.Nat.{ℕ}
 use mathlib.Core.Bool.{Bool, true, false, _&&_, cond}
 use mathlib.Core.List.{List}
 use lib.Dec.{leb, eqb}
-use lib.IntN.{ℤ}
 use lib.Ieee.{Float}
-use lib.ListN.{length}
 use Rattle.phonon.specs.declared.Anchoring.{Anchoring}
 use Rattle.phonon.specs.declared.Anchoring.the-variants.{Plain, Averaged}
 use Rattle.phonon.specs.declared.Form.{Form}
@@ -34,14 +32,11 @@ symmetryOf x = cond (eqb x 0) Off Symmetrized
 unfoldable pub weightsOf : ℕ → Weights
 weightsOf x = cond (eqb x 0) PerSlot AtFrequencyPoint
 
--- ---- whether the choices and the arrays of fixed length can be read at all
+-- the three choices of the tables
+unfoldable pub choicesKnown : ℕ → ℕ → ℕ → Bool
+choicesKnown anchoring form symmetry = known anchoring && known form && known symmetry
 
--- of the tables: three choices, the mesh and the q matrix
-unfoldable pub tablesRead : ℕ → ℕ → ℕ → List ℤ → List ℤ → Bool
-tablesRead anchoring form symmetry mesh matrix =
-    known anchoring && known form && known symmetry && eqb (length mesh) 3 && eqb (length matrix) 9
-
--- ---- the answers: 255 of a call that cannot be read, which leaves everything as it is; otherwise document 01's number
+-- ---- the answers: 255 of a call with a choice that is not known, which leaves everything as it is; otherwise document 01's number
 
 pub record Strengths : Type 0 where
   pub answer : ℕ

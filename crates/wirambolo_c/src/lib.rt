@@ -1,4 +1,4 @@
-// The doors for programs in C and Rust: choices as numbers, arrays of fixed length as slices, one number as the answer.
+// The doors for programs in C and Rust: choices as numbers, arrays of fixed length by reference, one number as the answer.
 use phonon::Anchoring;
 use phonon::Bath;
 use phonon::Form;
@@ -7,17 +7,12 @@ use phonon::Settings;
 use phonon::Symmetry;
 use phonon::TotalsMeasures;
 use phonon::Weights;
-use planes::nine_at;
-use planes::three_at;
 use refusals::number_of;
 ghost use mathlib.Core.Path.{_≡_};
-ghost use mathlib.Core.Bool.{_&&_};
-ghost use lib.Dec.{eqb};
-ghost use lib.ListN.{length};
 ghost use Rattle.wirambolo_c.specs.Foreign as Foreign;
 ghost use Rattle.wirambolo_c.specs.Foreign.{Strengths, Totals, Joined};
 
-// ---- choices and arrays
+// ---- choices
 
 fn is_known(x: u8) -> bool
     ensures { λ r. ⌜ r ≡ Foreign.known x ⌝ }
@@ -61,29 +56,11 @@ fn weights_of(x: u8) -> Weights
     Weights::AtFrequencyPoint
 }
 
-fn three(s: &[i64]) -> [i64; 3]
-    requires { ⌜ length (now s) ≡ 3 ⌝ }
-    ensures { λ r. ⌜ r ≡ now (s .entry) ⌝ }
+// Whether the three choices of the tables are known.
+fn are_choices_known(anchoring: u8, form: u8, symmetry: u8) -> bool
+    ensures { λ r. ⌜ r ≡ Foreign.choicesKnown anchoring form symmetry ⌝ }
 {
-    three_at(s, 0)
-}
-
-fn nine(s: &[i64]) -> [i64; 9]
-    requires { ⌜ length (now s) ≡ 9 ⌝ }
-    ensures { λ r. ⌜ r ≡ now (s .entry) ⌝ }
-{
-    nine_at(s, 0)
-}
-
-// Whether the choices are known and the arrays of the grid have their lengths.
-fn are_tables_read(anchoring: u8, form: u8, symmetry: u8, mesh: &[i64], matrix: &[i64]) -> bool
-    ensures { λ r. ⌜ r ≡ Foreign.tablesRead anchoring form symmetry (now (mesh .entry)) (now (matrix .entry)) ⌝ }
-{
-    is_known(anchoring)
-        & is_known(form)
-        & is_known(symmetry)
-        & (mesh.len() == 3)
-        & (matrix.len() == 9)
+    is_known(anchoring) & is_known(form) & is_known(symmetry)
 }
 
 // ---- the doors
@@ -100,9 +77,9 @@ pub extern "C" fn wirambolo_get_interaction_at_triplet(
     cutoff: f64,
     form: u8,
     symmetry: u8,
-    mesh: &[i64],
-    matrix: &[i64],
-    triplet: &[i64],
+    mesh: &[i64; 3],
+    matrix: &[i64; 9],
+    triplet: &[i64; 3],
     addresses: &[i64],
     vectors: &[f64],
     multiplicity: &[i64],
@@ -120,10 +97,7 @@ pub extern "C" fn wirambolo_get_interaction_at_triplet(
     work: &mut [f64],
 ) -> u8
     ensures { λ r. ⌜ _≡_ {A = Strengths} (record { answer = r; strengths = now (strengths .exit); work = now (work .exit) })
-        (Foreign.tripletAnswer
-        (Foreign.tablesRead anchoring form symmetry (now (mesh .entry)) (now (matrix .entry))
-        && eqb (length (now (triplet .entry))) 3)
-        (record {
+        (Foreign.tripletAnswer (Foreign.choicesKnown anchoring form symmetry) (record {
           tables = record {
             measures = record { atoms = atoms; supercell = supercell; first = first; grid = grid; vectors = «vectors_count» };
             settings = record { anchoring = Foreign.anchoringOf anchoring; cutoff = cutoff };
@@ -151,7 +125,7 @@ pub extern "C" fn wirambolo_get_interaction_at_triplet(
           work = now (work .entry);
         })) ⌝ }
 {
-    if !(are_tables_read(anchoring, form, symmetry, mesh, matrix) & (triplet.len() == 3)) {
+    if !are_choices_known(anchoring, form, symmetry) {
         return 255;
     }
     let m = Measures {
@@ -170,9 +144,9 @@ pub extern "C" fn wirambolo_get_interaction_at_triplet(
         settings,
         form_of(form),
         symmetry_of(symmetry),
-        three(mesh),
-        nine(matrix),
-        three(triplet),
+        *mesh,
+        *matrix,
+        *triplet,
         addresses,
         vectors,
         multiplicity,
@@ -203,8 +177,8 @@ pub extern "C" fn wirambolo_get_interaction(
     cutoff: f64,
     form: u8,
     symmetry: u8,
-    mesh: &[i64],
-    matrix: &[i64],
+    mesh: &[i64; 3],
+    matrix: &[i64; 9],
     list: usize,
     triplets: &[i64],
     addresses: &[i64],
@@ -224,7 +198,7 @@ pub extern "C" fn wirambolo_get_interaction(
     work: &mut [f64],
 ) -> u8
     ensures { λ r. ⌜ _≡_ {A = Strengths} (record { answer = r; strengths = now (strengths .exit); work = now (work .exit) })
-        (Foreign.listAnswer (Foreign.tablesRead anchoring form symmetry (now (mesh .entry)) (now (matrix .entry))) (record {
+        (Foreign.listAnswer (Foreign.choicesKnown anchoring form symmetry) (record {
           tables = record {
             measures = record { atoms = atoms; supercell = supercell; first = first; grid = grid; vectors = «vectors_count» };
             settings = record { anchoring = Foreign.anchoringOf anchoring; cutoff = cutoff };
@@ -253,7 +227,7 @@ pub extern "C" fn wirambolo_get_interaction(
           work = now (work .entry);
         })) ⌝ }
 {
-    if !are_tables_read(anchoring, form, symmetry, mesh, matrix) {
+    if !are_choices_known(anchoring, form, symmetry) {
         return 255;
     }
     let m = Measures {
@@ -272,8 +246,8 @@ pub extern "C" fn wirambolo_get_interaction(
         settings,
         form_of(form),
         symmetry_of(symmetry),
-        three(mesh),
-        nine(matrix),
+        *mesh,
+        *matrix,
         list,
         triplets,
         addresses,
@@ -301,7 +275,7 @@ pub extern "C" fn wirambolo_imag_self_energy_at_triplet(
     first: usize,
     grid: usize,
     weights: u8,
-    triplet: &[i64],
+    triplet: &[i64; 3],
     frequencies: &[f64],
     cutoff: f64,
     flags: &[u8],
@@ -313,7 +287,7 @@ pub extern "C" fn wirambolo_imag_self_energy_at_triplet(
     totals: &mut [f64],
 ) -> u8
     ensures { λ r. ⌜ _≡_ {A = Totals} (record { answer = r; totals = now (totals .exit) })
-        (Foreign.totalsAnswer (Foreign.known weights && eqb (length (now (triplet .entry))) 3) (record {
+        (Foreign.totalsAnswer (Foreign.known weights) (record {
           measures = record { atoms = atoms; first = first; grid = grid };
           weights = Foreign.weightsOf weights;
           triplet = now (triplet .entry);
@@ -327,7 +301,7 @@ pub extern "C" fn wirambolo_imag_self_energy_at_triplet(
           totals = now (totals .entry);
         })) ⌝ }
 {
-    if !(is_known(weights) & (triplet.len() == 3)) {
+    if !is_known(weights) {
         return 255;
     }
     let m = TotalsMeasures {
@@ -342,7 +316,7 @@ pub extern "C" fn wirambolo_imag_self_energy_at_triplet(
     number_of(imag_self_energy::imag_self_energy_at_triplet(
         m,
         weights_of(weights),
-        three(triplet),
+        *triplet,
         frequencies,
         cutoff,
         flags,
@@ -366,9 +340,9 @@ pub extern "C" fn wirambolo_joined_at_triplet(
     cutoff: f64,
     form: u8,
     symmetry: u8,
-    mesh: &[i64],
-    matrix: &[i64],
-    triplet: &[i64],
+    mesh: &[i64; 3],
+    matrix: &[i64; 9],
+    triplet: &[i64; 3],
     addresses: &[i64],
     vectors: &[f64],
     multiplicity: &[i64],
@@ -392,10 +366,7 @@ pub extern "C" fn wirambolo_joined_at_triplet(
 ) -> u8
     ensures { λ r. ⌜ _≡_ {A = Joined}
         (record { answer = r; strengths = now (strengths .exit); totals = now (totals .exit); work = now (work .exit) })
-        (Foreign.joinedAnswer
-        (Foreign.tablesRead anchoring form symmetry (now (mesh .entry)) (now (matrix .entry))
-        && eqb (length (now (triplet .entry))) 3)
-        (record {
+        (Foreign.joinedAnswer (Foreign.choicesKnown anchoring form symmetry) (record {
           tables = record {
             measures = record { atoms = atoms; supercell = supercell; first = first; grid = grid; vectors = «vectors_count» };
             settings = record { anchoring = Foreign.anchoringOf anchoring; cutoff = cutoff };
@@ -427,7 +398,7 @@ pub extern "C" fn wirambolo_joined_at_triplet(
           work = now (work .entry);
         })) ⌝ }
 {
-    if !(are_tables_read(anchoring, form, symmetry, mesh, matrix) & (triplet.len() == 3)) {
+    if !are_choices_known(anchoring, form, symmetry) {
         return 255;
     }
     let m = Measures {
@@ -451,9 +422,9 @@ pub extern "C" fn wirambolo_joined_at_triplet(
         form_of(form),
         symmetry_of(symmetry),
         bath,
-        three(mesh),
-        nine(matrix),
-        three(triplet),
+        *mesh,
+        *matrix,
+        *triplet,
         addresses,
         vectors,
         multiplicity,

@@ -1,21 +1,15 @@
--- A call that cannot be read is answered with 255 and left as it is; any other is the door's.
-use mathlib.Core.Path.{_≡_}
-use lib.ListN.{length}
+-- A call with a choice that is not known is answered with 255 and left as it is; any other is the door's.
 use borrow.Author.Needs.{needs}
 use Rattle.checks.proofs.Laws.{told-good, told-bad}
-use Rattle.wirambolo_c.proofs.Laws.{grid-lengths, strengths-unread, strengths-answered}
+use Rattle.wirambolo_c.proofs.Laws.{strengths-unread, strengths-answered}
 use Rattle.wirambolo_c.proofs.wirambolo_get_interaction.Statement.{statement}
 use Rattle.wirambolo_c.proofs.wirambolo_get_interaction.Tie as tie
 
-are-tables-read-requires : tie.Need-are-tables-read-requires
-are-tables-read-requires c κs = search needs
+are-choices-known-requires : tie.Need-are-choices-known-requires
+are-choices-known-requires c κs = search needs
 
 returns : tie.Need-returns
-returns c = strengths-unread _ _ _ (told-bad (c .before .are-tables-read .ensures) (c .if1 .taken))
-
--- the lengths of the mesh and of the q matrix
-lengths : (c : tie.After-anchoring-of) → (length (c .before .before .before .before .before .before .before .before .before .before .before .before .before .args .mesh .now) ≡ 3) × (length (c .before .before .before .before .before .before .before .before .before .before .before .before .before .args .matrix .now) ≡ 9)
-lengths c = grid-lengths _ _ _ _ _ (told-good (c .before .before .are-tables-read .ensures) (c .before .if1 .left))
+returns c = strengths-unread _ _ _ (told-bad (c .before .are-choices-known .ensures) (c .if1 .taken))
 
 anchoring-of-requires : tie.Need-anchoring-of-requires
 anchoring-of-requires c κs = search needs
@@ -25,12 +19,6 @@ form-of-requires c κs = search needs
 
 symmetry-of-requires : tie.Need-symmetry-of-requires
 symmetry-of-requires c κs = search needs
-
-three-requires : tie.Need-three-requires
-three-requires c κs = lengths (c .before .before) .0
-
-nine-requires : tie.Need-nine-requires
-nine-requires c κs = lengths (c .before .before .before) .1
 
 get-interaction-requires : tie.Need-get-interaction-requires
 get-interaction-requires c κs = search needs
@@ -46,21 +34,19 @@ same-length-2 c = search needs
 
 returns-2 : tie.Need-returns-2
 returns-2 c =
-    strengths-answered _ _ (told-good (c .before .before .before .before .before .before .before .before .before .before .before .before .before .before .are-tables-read .ensures) (c .before .before .before .before .before .before .before .before .before .before .before .before .before .if1 .left))
-    (rw (c .before .before .before .before .before .before .before .before .nine .ensures, c .before .before .before .before .before .before .before .before .before .three .ensures, c .before .before .before .before .before .before .before .before .before .before .symmetry-of .ensures, c .before .before .before .before .before .before .before .before .before .before .before .form-of .ensures, c .before .before .before .before .before .before .before .before .before .before .before .before .anchoring-of .ensures) at (c .before .before .before .before .before .get-interaction .ensures))
+    strengths-answered _ _ (told-good (c .before .before .before .before .before .before .before .before .before .before .before .before .before .before .are-choices-known .ensures) (c .before .before .before .before .before .before .before .before .before .before .before .before .before .if1 .left))
+    (rw (c .before .before .before .before .before .before .before .before .before .before .symmetry-of .ensures, c .before .before .before .before .before .before .before .before .before .before .before .form-of .ensures, c .before .before .before .before .before .before .before .before .before .before .before .before .anchoring-of .ensures) at (c .before .before .before .before .before .get-interaction .ensures))
     (c .number-of .ensures)
 
 pub wirambolo-get-interaction-spec : {M : Type 1} → statement M
 wirambolo-get-interaction-spec =
     tie.close
     (tie.spec
-    are-tables-read-requires
+    are-choices-known-requires
     returns
     anchoring-of-requires
     form-of-requires
     symmetry-of-requires
-    three-requires
-    nine-requires
     get-interaction-requires
     number-of-requires
     same-length

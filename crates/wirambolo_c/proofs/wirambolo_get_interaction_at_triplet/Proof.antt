@@ -1,32 +1,15 @@
--- A call that cannot be read is answered with 255 and left as it is; any other is the door's.
-use mathlib.Core.Path.{_≡_}
-use mathlib.Core.Bool.{true}
-use lib.Dec.{eqb}
-use lib.ListN.{length}
+-- A call with a choice that is not known is answered with 255 and left as it is; any other is the door's.
 use borrow.Author.Needs.{needs}
-use borrow.Author.Tests.{eqb-true}
-use Rattle.phonon.proofs.Accepted.{and-both}
-use Rattle.wirambolo_c.specs.Foreign.{tablesRead}
-use Rattle.wirambolo_c.proofs.Laws.{both-good, both-bad, grid-lengths, strengths-unread, strengths-answered}
+use Rattle.checks.proofs.Laws.{told-good, told-bad}
+use Rattle.wirambolo_c.proofs.Laws.{strengths-unread, strengths-answered}
 use Rattle.wirambolo_c.proofs.wirambolo_get_interaction_at_triplet.Statement.{statement}
 use Rattle.wirambolo_c.proofs.wirambolo_get_interaction_at_triplet.Tie as tie
 
-are-tables-read-requires : tie.Need-are-tables-read-requires
-are-tables-read-requires c κs = search needs
+are-choices-known-requires : tie.Need-are-choices-known-requires
+are-choices-known-requires c κs = search needs
 
 returns : tie.Need-returns
-returns c = strengths-unread _ _ _ (both-bad _ (c .before .are-tables-read .ensures) (c .if1 .taken))
-
-abbrev entry : tie.After-anchoring-of → tie.Start
-entry c = c .before .before .before .before .before .before .before .before .before .before .before .before .before
-
--- the tests that the call has passed: of the tables, and of the triplet's length
-passed : (c : tie.After-anchoring-of) → (tablesRead (entry c .args .anchoring) (entry c .args .form) (entry c .args .symmetry) (entry c .args .mesh .now) (entry c .args .matrix .now) ≡ true) × (eqb (length (entry c .args .triplet .now)) 3 ≡ true)
-passed c = and-both _ _ (both-good _ (c .before .before .are-tables-read .ensures) (c .before .if1 .left))
-
--- the lengths of the mesh and of the q matrix
-lengths : (c : tie.After-anchoring-of) → (length (entry c .args .mesh .now) ≡ 3) × (length (entry c .args .matrix .now) ≡ 9)
-lengths c = grid-lengths _ _ _ _ _ (passed c .0)
+returns c = strengths-unread _ _ _ (told-bad (c .before .are-choices-known .ensures) (c .if1 .taken))
 
 anchoring-of-requires : tie.Need-anchoring-of-requires
 anchoring-of-requires c κs = search needs
@@ -36,15 +19,6 @@ form-of-requires c κs = search needs
 
 symmetry-of-requires : tie.Need-symmetry-of-requires
 symmetry-of-requires c κs = search needs
-
-three-requires : tie.Need-three-requires
-three-requires c κs = lengths (c .before .before) .0
-
-nine-requires : tie.Need-nine-requires
-nine-requires c κs = lengths (c .before .before .before) .1
-
-three-requires-2 : tie.Need-three-requires-2
-three-requires-2 c κs = eqb-true _ _ (passed (c .before .before .before .before) .1)
 
 get-interaction-at-triplet-requires : tie.Need-get-interaction-at-triplet-requires
 get-interaction-at-triplet-requires c κs = search needs
@@ -60,22 +34,19 @@ same-length-2 c = search needs
 
 returns-2 : tie.Need-returns-2
 returns-2 c =
-    strengths-answered _ _ (both-good _ (c .before .before .before .before .before .before .before .before .before .before .before .before .before .before .before .are-tables-read .ensures) (c .before .before .before .before .before .before .before .before .before .before .before .before .before .before .if1 .left))
-    (rw (c .before .before .before .before .before .before .before .before .three2 .ensures, c .before .before .before .before .before .before .before .before .before .nine .ensures, c .before .before .before .before .before .before .before .before .before .before .three .ensures, c .before .before .before .before .before .before .before .before .before .before .before .symmetry-of .ensures, c .before .before .before .before .before .before .before .before .before .before .before .before .form-of .ensures, c .before .before .before .before .before .before .before .before .before .before .before .before .before .anchoring-of .ensures) at (c .before .before .before .before .before .get-interaction-at-triplet .ensures))
+    strengths-answered _ _ (told-good (c .before .before .before .before .before .before .before .before .before .before .before .before .before .before .before .are-choices-known .ensures) (c .before .before .before .before .before .before .before .before .before .before .before .before .before .before .if1 .left))
+    (rw (c .before .before .before .before .before .before .before .before .before .before .before .symmetry-of .ensures, c .before .before .before .before .before .before .before .before .before .before .before .before .form-of .ensures, c .before .before .before .before .before .before .before .before .before .before .before .before .before .anchoring-of .ensures) at (c .before .before .before .before .before .get-interaction-at-triplet .ensures))
     (c .number-of .ensures)
 
 pub wirambolo-get-interaction-at-triplet-spec : {M : Type 1} → statement M
 wirambolo-get-interaction-at-triplet-spec =
     tie.close
     (tie.spec
-    are-tables-read-requires
+    are-choices-known-requires
     returns
     anchoring-of-requires
     form-of-requires
     symmetry-of-requires
-    three-requires
-    nine-requires
-    three-requires-2
     get-interaction-at-triplet-requires
     number-of-requires
     same-length

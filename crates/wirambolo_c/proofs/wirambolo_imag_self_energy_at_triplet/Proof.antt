@@ -1,12 +1,11 @@
--- A call that cannot be read is answered with 255 and left as it is; any other is the door's.
+-- A call with a choice that is not known is answered with 255 and left as it is; any other is the door's.
 use borrow.Author.Needs.{needs}
-use borrow.Author.Tests.{eqb-true, not-false}
 use mir.ValLaws.{toZ-ofZ}
 use mir.Syntax.{w64}
 use Rattle.phonon.specs.Sets.{TotalsSet}
-use Rattle.phonon.proofs.Accepted.{and-both}
+use Rattle.checks.proofs.Laws.{told-good, told-bad}
 use Rattle.wirambolo_c.specs.Foreign.{weightsOf}
-use Rattle.wirambolo_c.proofs.Laws.{both-good, both-bad, totals-unread, totals-answered}
+use Rattle.wirambolo_c.proofs.Laws.{totals-unread, totals-answered}
 use Rattle.wirambolo_c.proofs.wirambolo_imag_self_energy_at_triplet.Statement.{statement}
 use Rattle.wirambolo_c.proofs.wirambolo_imag_self_energy_at_triplet.Tie as tie
 
@@ -33,13 +32,10 @@ is-known-requires c κs = search needs
 returns : tie.Need-returns
 returns c =
     let s = c .before .before .before .before .before .before .before .before in
-    totals-unread _ (handed s) (both-bad _ (c .before .is-known .ensures) (c .if1 .taken))
+    totals-unread _ (handed s) (told-bad (c .before .is-known .ensures) (c .if1 .taken))
 
 weights-of-requires : tie.Need-weights-of-requires
 weights-of-requires c κs = search needs
-
-three-requires : tie.Need-three-requires
-three-requires c κs = eqb-true _ _ (and-both (c .before .before .is-known .result) _ (not-false _ (c .before .if1 .left)) .1)
 
 imag-self-energy-at-triplet-requires : tie.Need-imag-self-energy-at-triplet-requires
 imag-self-energy-at-triplet-requires c κs = search needs
@@ -53,8 +49,8 @@ same-length c = search needs
 returns-2 : tie.Need-returns-2
 returns-2 c =
     let s = c .before .before .before .before .before .before .before .before .before .before .before .before .before .before .before in
-    totals-answered _ (handed s) (both-good _ (c .before .before .before .before .before .before .before .before .is-known .ensures) (c .before .before .before .before .before .before .before .if1 .left))
-    (rw (c .before .before .before .before .before .three .ensures, c .before .before .before .before .before .before .weights-of .ensures, toZ-ofZ w64 _ (s .fits .weight)) at (c .before .before .before .imag-self-energy-at-triplet .ensures)) (c .number-of .ensures)
+    totals-answered _ (handed s) (told-good (c .before .before .before .before .before .before .before .before .is-known .ensures) (c .before .before .before .before .before .before .before .if1 .left))
+    (rw (c .before .before .before .before .before .before .weights-of .ensures, toZ-ofZ w64 _ (s .fits .weight)) at (c .before .before .before .imag-self-energy-at-triplet .ensures)) (c .number-of .ensures)
 
 pub wirambolo-imag-self-energy-at-triplet-spec : {M : Type 1} → statement M
 wirambolo-imag-self-energy-at-triplet-spec =
@@ -63,7 +59,6 @@ wirambolo-imag-self-energy-at-triplet-spec =
     is-known-requires
     returns
     weights-of-requires
-    three-requires
     imag-self-energy-at-triplet-requires
     number-of-requires
     same-length

@@ -93,7 +93,7 @@ impl Kind {
             Kind::Edge => "phases at the ends",
             Kind::OneFault => "one fault",
             Kind::TwoFaults => "two faults",
-            Kind::Foreign => "choice or array unknown",
+            Kind::Foreign => "choice unknown",
         }
     }
 }
@@ -152,16 +152,13 @@ impl Limit {
     }
 }
 
-/// What only a caller through C can hand in: a number that names no choice, or an array of another length.
+/// What only a caller through C can hand in: a number that names no choice.
 #[derive(Clone, Copy, Debug, PartialEq)]
 pub enum Foreign {
     Anchoring(u8),
     Form(u8),
     Symmetry(u8),
     Weighting(u8),
-    Mesh(usize),
-    Matrix(usize),
-    Triplet(usize),
 }
 
 /// Buffers lent for writing; a door that is lent none of a kind has an empty one.

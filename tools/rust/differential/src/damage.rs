@@ -32,29 +32,17 @@ pub fn plant(random: &mut Random, call: &mut Call, numbers: &[u8]) {
     };
 }
 
-/// Hands over a number that names no choice, or an array of another length.
+/// Hands over a number that names no choice.
 pub fn make_foreign(random: &mut Random, call: &mut Call) {
     let number = random.pick(&[2, 3, 127, 128, 254, 255]);
-    let short = random.pick(&[0, 1, 2, 4, 9]);
-    let choices = match call.door {
-        Door::Totals => vec![Foreign::Weighting(number), Foreign::Triplet(short)],
-        Door::List => vec![
+    call.foreign = Some(match call.door {
+        Door::Totals => Foreign::Weighting(number),
+        _ => random.pick(&[
             Foreign::Anchoring(number),
             Foreign::Form(number),
             Foreign::Symmetry(number),
-            Foreign::Mesh(short),
-            Foreign::Matrix(random.pick(&[0, 3, 8, 10, 16])),
-        ],
-        _ => vec![
-            Foreign::Anchoring(number),
-            Foreign::Form(number),
-            Foreign::Symmetry(number),
-            Foreign::Mesh(short),
-            Foreign::Matrix(random.pick(&[0, 3, 8, 10, 16])),
-            Foreign::Triplet(short),
-        ],
-    };
-    call.foreign = Some(random.pick(&choices));
+        ]),
+    });
     call.kind = Kind::Foreign;
 }
 

@@ -3,7 +3,7 @@
 use crate::call::{Call, Door};
 use oracle::sets::*;
 
-/// The answer to a choice that has no such number, or an array of another length, through C.
+/// The answer to a choice that has no such number, through C.
 pub const UNKNOWN: u8 = 255;
 
 /// Buffers lent for writing.

@@ -10,16 +10,8 @@ use wirambolo::{Bath, Measures, TotalsMeasures};
 struct Handed<'a> {
     tables: FlatTables<'a>,
     weights: u8,
-    triplet: &'a [i64],
+    triplet: &'a [i64; 3],
     bath: Bath,
-}
-
-/// Stands in for an array of too many entries.
-static LONG: [i64; 16] = [1; 16];
-
-/// The array with another length.
-fn of_length(array: &[i64], length: usize) -> &[i64] {
-    array.get(..length).unwrap_or(&LONG[..length])
 }
 
 impl<'a> Handed<'a> {
@@ -53,21 +45,17 @@ impl<'a> Handed<'a> {
             constants: &s.force_constants,
         };
         let mut weights = u8::from(call.weighting == Weighting::AtFrequencyPoint);
-        let mut triplet: &[i64] = &call.set.triplet;
         match call.foreign {
             None => (),
             Some(Foreign::Anchoring(number)) => tables.anchoring = number,
             Some(Foreign::Form(number)) => tables.form = number,
             Some(Foreign::Symmetry(number)) => tables.symmetry = number,
             Some(Foreign::Weighting(number)) => weights = number,
-            Some(Foreign::Mesh(length)) => tables.mesh = of_length(tables.mesh, length),
-            Some(Foreign::Matrix(length)) => tables.matrix = of_length(tables.matrix, length),
-            Some(Foreign::Triplet(length)) => triplet = of_length(triplet, length),
         }
         Handed {
             tables,
             weights,
-            triplet,
+            triplet: &call.set.triplet,
             bath: Bath {
                 weight: call.set.bath.weight,
                 temperature: call.set.bath.temperature,
