@@ -42,6 +42,31 @@ fn run_for(patience: Duration, program: &OsStr, carton: &[u8]) -> Result<Vec<u8>
     Ok(printed)
 }
 
+/// What the program says on standard error where its answer could not be written whole.
+const CUT: &str = "key: the answer could not be written whole\n";
+
+/// Outputs that take nothing, as the shell has them: a full disk, and a closed output.
+const TAKES_NOTHING: [&str; 2] = ["/dev/full", "&-"];
+
+/// The program says so, and nothing else, where its answer cannot be written; an error says where it does not.
+pub fn tells_of_a_cut(program: &OsStr) -> Result<(), String> {
+    for output in TAKES_NOTHING {
+        let run = Command::new("/bin/sh")
+            .args(["-c", &format!("exec \"$0\" >{output} </dev/null")])
+            .arg(program)
+            .output()
+            .map_err(|e| e.to_string())?;
+        let said = String::from_utf8_lossy(&run.stderr);
+        if !run.status.success() || said != CUT {
+            return Err(format!(
+                "with its output to {output} it ends with {} and says {said:?}",
+                run.status
+            ));
+        }
+    }
+    Ok(())
+}
+
 /// Hands the carton over and reads both outputs to the end, on threads of their own so that a run that hangs can be stopped.
 fn converse(
     child: &mut Child,
@@ -103,6 +128,12 @@ mod tests {
         for carton in [&b""[..], b"a carton", &[7; 1 << 20]] {
             assert_eq!(run(OsStr::new("/bin/cat"), carton).as_deref(), Ok(carton));
         }
+    }
+
+    #[test]
+    fn a_program_that_says_nothing_of_a_cut() {
+        let how = tells_of_a_cut(OsStr::new("/bin/true")).expect_err("nothing is said");
+        assert!(how.contains("/dev/full") && how.contains("\"\""));
     }
 
     #[test]

@@ -255,7 +255,7 @@ fn describe(call: &Call) -> String {
     text
 }
 
-/// Runs the program named by KEY; without it the oracle's `key` stands in.
+/// Runs the program named by KEY; without it the oracle's `key` stands in. The program must also tell of an answer that it cannot write.
 fn compare_key(wanted: &Wanted) -> CartonTally {
     let program = std::env::var_os("KEY");
     if program.is_none() {
@@ -267,6 +267,10 @@ fn compare_key(wanted: &Wanted) -> CartonTally {
     let mut whole = CartonTally::default();
     for tally in &tallies {
         whole.add(tally);
+    }
+    if let Some(Err(how)) = program.as_deref().map(key::tells_of_a_cut) {
+        println!("MISMATCH key: {how}");
+        whole.mismatches += 1;
     }
     whole
 }
