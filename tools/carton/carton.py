@@ -4,15 +4,22 @@
     carton.py make DESCRIPTION [-o FILE]    write the carton of a description
     carton.py show FILE                     print a carton as a description, and what is wrong with it
 
-README.md in this folder says how a description is written. Nothing but Python 3.8 or later is needed.
+`-` in place of DESCRIPTION or FILE is standard input. README.md in this folder says how a description is written. Nothing but
+Python 3.8 or later is needed.
 """
 import argparse
+import codecs
 import collections
+import contextlib
 import difflib
 import math
+import os
 import re
+import stat
 import struct
 import sys
+import tempfile
+import unicodedata
 from pathlib import Path
 
 BLOCK_BYTES = 512
@@ -23,6 +30,10 @@ MOST_BLOCKS = 96
 MOST_WORK = 6144
 # a description that asks for more is surely a slip
 MOST_WORDS = 1_000_000
+# Boltzmann's constant over Planck's: what 1 K is in THz
+KELVIN_IN_THZ = "0.0208366"
+# in place of a file's name: standard input, or behind -o standard output
+STANDARD = "-"
 
 # ---- what a carton holds, in file order
 
@@ -74,19 +85,60 @@ COUNTED_FROM = {"P": "masses", "S": "s2p", "F": "bands", "G": "addresses", "V": 
 NAMES = ["from", *MEASURES, *CHOICES, *SCALARS, *BY_NAME]
 
 
-class DescriptionError(Exception):
+class CartonError(Exception):
+    """What ends the command with a message."""
+
+
+class DescriptionError(CartonError):
     """A description that no carton can be made of."""
 
     def __init__(self, path, line, text):
-        super().__init__(f"{path}:{line}: {text}" if line else f"{path}: {text}")
+        super().__init__(f"{place_text(path, line)}: {text}")
+
+
+class FileError(CartonError):
+    """A file that cannot be read, or is not written."""
+
+
+# ---- words for messages
+
+def place_text(path, line=None):
+    name = "standard input" if path == STANDARD else path
+    return f"{name}:{line}" if line else f"{name}"
+
+
+def quoted(text):
+    """A piece of a description, no longer than a message takes, and printable."""
+    text = text if len(text) <= 40 else text[:37] + "..."
+    return "`" + "".join(c if c.isprintable() else f"\\u{ord(c):04x}" for c in text) + "`"
+
+
+def reason(problem):
+    """What the system says of a file, without its number and the name."""
+    return problem.strerror or str(problem)
 
 
 # ---- sizes and places
 
-def sizes_of(measures, compact):
-    """The measures by their letters, with B and R."""
-    rows = measures["P"] if compact else measures["S"]
-    return {**measures, "B": 3 * measures["P"], "R": rows}
+class Sizes(dict):
+    """The measures by their letters, with B and R; `origins` says for each what set it, in the order to be told."""
+
+    def __init__(self, measures, compact):
+        super().__init__(measures)
+        self.rows = "P" if compact else "S"
+        self["B"], self["R"] = 3 * measures["P"], measures[self.rows]
+        self.origins = {}
+
+    def set_by(self, measures, form):
+        """Takes what set the measures and the form."""
+        self.origins = {letter: [text] for letter, text in measures.items()}
+        self.origins["B"] = ["B = 3·P"] + self.origins["P"]
+        self.origins["R"] = [f"R = {self.rows}, as {form}"] + self.origins[self.rows]
+
+    def origin_text(self, *sizes):
+        """What set these sizes, to stand behind a message."""
+        texts = [text for size in sizes for text in self.origins.get(size, [])]
+        return "".join(f"; {text}" for text in dict.fromkeys(texts))
 
 
 def size_of(sizes, size):
@@ -119,11 +171,11 @@ def place_at(table, sizes, word):
 
 
 def product_text(table, sizes):
-    """The length of a table as its factors: 1 (G) · 3 (B) · 2 (real part, imaginary part)."""
+    """The length of a table as its factors, 1 (G) · 3 (B) · 2 (real part, imaginary part), and what set them."""
     factors = [f"{size_of(sizes, size)} ({size})" if isinstance(size, str) else f"{size} ({name})" for name, size in table.indices]
     if len(table.parts) > 1:
         factors.append(f"{len(table.parts)} ({', '.join(table.parts)})")
-    return " · ".join(factors)
+    return " · ".join(factors) + sizes.origin_text(*(size for _, size in table.indices))
 
 
 def work_length(sizes):
@@ -134,7 +186,13 @@ def work_length(sizes):
 
 # ---- one value as a word of 64 bits, and back
 
-DECIMAL = re.compile(r"[+-]?(\d+(\.\d*)?|\.\d+)([eE][+-]?\d+)?$")
+# digits are ASCII: \d would take those of every script
+DECIMAL = re.compile(r"[+-]?([0-9]+(\.[0-9]*)?|\.[0-9]+)([eE][+-]?[0-9]+)?")
+INTEGER = re.compile(r"[+-]?[0-9]{1,19}")
+BITS = re.compile(r"0x[0-9a-fA-F]{16}")
+FLAG = re.compile(r"[0-9]{1,3}")
+COUNT = re.compile(r"[0-9]{1,7}")
+INDEX = re.compile(r"[0-9]+")
 EXPECTED = {
     "integer": "a whole number of 64 bits, such as -3, or the 16 hexadecimal digits of its bits, such as 0xfffffffffffffffd",
     "number": "a decimal, such as 0.5 or -1e-3, or the 16 hexadecimal digits of its bits, such as 0x3fe0000000000000",
@@ -145,28 +203,67 @@ EXPECTED = {
 def word_from(kind, text):
     """The word of a value, or None if it is not one of its kind."""
     if kind == "flag":
-        return int(text) if re.fullmatch(r"\d{1,3}", text) and int(text) < 256 else None
-    if re.fullmatch(r"0x[0-9a-fA-F]{16}", text):
+        return int(text) if FLAG.fullmatch(text) and int(text) < 256 else None
+    if BITS.fullmatch(text):
         return int(text, 16)
     if kind == "integer":
-        if not re.fullmatch(r"[+-]?\d{1,19}", text) or not -(2**63) <= int(text) < 2**63:
+        if not INTEGER.fullmatch(text) or not -(2**63) <= int(text) < 2**63:
             return None
         return int(text) % 2**64
-    if not DECIMAL.match(text) or math.isinf(float(text)):
+    if not DECIMAL.fullmatch(text) or math.isinf(float(text)):
         return None
     return struct.unpack("<Q", struct.pack("<d", float(text)))[0]
+
+
+def integer_of(word):
+    return word - 2**64 if word >= 2**63 else word
+
+
+def number_of(word):
+    return struct.unpack("<d", struct.pack("<Q", word))[0]
 
 
 def text_from(kind, word):
     """A word as a value of its kind: the shortest decimal that gives the same bits, and bits for what has no decimal."""
     if kind == "integer":
-        return str(word - 2**64 if word >= 2**63 else word)
+        return str(integer_of(word))
     if kind == "flag":
         return str(word)
-    x = struct.unpack("<d", struct.pack("<Q", word))[0]
+    x = number_of(word)
     if not math.isfinite(x):
         return f"0x{word:016x}"
     return str(int(x)) if x == int(x) and abs(x) < 1e15 and word != 2**63 else repr(x)
+
+
+# ---- what may stand wrong in a value
+
+# what parts values: blanks are plain blanks and tabs, so that any other one is seen
+CHUNK = re.compile(r"[^ \t]+")
+VALUE = re.compile(r"[^ \t,]+")
+TIGHT_COMMA = re.compile(r"[0-9],+[0-9]")
+
+
+def comma_text(kind, chunk, several):
+    """What to write where a comma stands between two digits without a blank, in a place for several values or for one."""
+    values, decimal = VALUE.findall(chunk), chunk.replace(",", ".", 1)
+    parted = f"{quoted(', '.join(values))} for {len(values)} values"
+    if kind == "number" and DECIMAL.fullmatch(decimal.rpartition("*")[2]):
+        return f"a decimal comma is not taken: write {quoted(decimal)}" + (f", or {parted}" if several else "")
+    return f"a comma between two digits needs a blank behind it: write {parted}" if several else "a comma within a number is not taken"
+
+
+def strange_text(text):
+    """Names the first character of a text that is not ASCII, to stand behind a message."""
+    found = next((c for c in text if c != "\t" and not " " <= c <= "~"), None)
+    if found is None:
+        return ""
+    return f"; U+{ord(found):04X}, {unicodedata.name(found, 'a control character')}, was found, and names and values are written in ASCII"
+
+
+def misfit_text(kind, value):
+    """Why a single value is not one of its kind."""
+    comma = "; " + comma_text(kind, value, several=False) if TIGHT_COMMA.search(value) else ""
+    return f"{quoted(value)}: {EXPECTED[kind]} was expected{comma}{strange_text(value)}"
 
 
 # ---- reading a description
@@ -180,79 +277,130 @@ class Statement:
     def error(self, text, line=None):
         return DescriptionError(self.path, line or self.line, f"{self.name}: {text}")
 
+    def place(self):
+        return place_text(self.path, self.line)
 
-def statements_of(path):
-    """The statements of a file, by name."""
+
+def read_file(name):
+    """The bytes of a file, and what tells it from every other file under any name. The word `-` is standard input."""
+    standard = name == STANDARD
     try:
-        text = Path(path).read_text(encoding="utf-8")
-    except (OSError, UnicodeDecodeError) as problem:
-        raise DescriptionError(path, None, f"cannot be read: {problem}") from None
+        with open(0 if standard else name, "rb", closefd=not standard) as stream:
+            return stream.read(), identity(os.fstat(stream.fileno()))
+    except OSError as problem:
+        raise FileError(f"{place_text(name)}: cannot be read: {reason(problem)}") from None
+
+
+def identity(status):
+    return status.st_dev, status.st_ino
+
+
+def text_of(path, file):
+    """The text of a description: UTF-8, with or without a byte-order mark."""
+    if file.startswith((codecs.BOM_UTF16_LE, codecs.BOM_UTF16_BE)):
+        raise DescriptionError(path, None, "is UTF-16: save it as UTF-8")
+    zero = file.find(b"\0")
+    if zero >= 0:
+        raise DescriptionError(path, line_at(file, zero), "a byte 0, where a description, text in UTF-8, was expected; is this UTF-16, or a carton?")
+    file = file[len(codecs.BOM_UTF8):] if file.startswith(codecs.BOM_UTF8) else file
+    try:
+        return file.decode("utf-8")
+    except UnicodeDecodeError as problem:
+        raise DescriptionError(path, line_at(file, problem.start), f"byte 0x{file[problem.start]:02x} is no UTF-8: save the description as UTF-8") from None
+
+
+def lines_of(text):
+    """The lines of a text, ended as on any system."""
+    return text.replace("\r\n", "\n").replace("\r", "\n").split("\n")
+
+
+def line_at(file, place):
+    """The number of the line that a byte stands in."""
+    return len(lines_of(file[:place].decode("latin-1")))
+
+
+def statements_of(path, text):
+    """The statements of a description, by name."""
     found, current = {}, None
-    for number, line in enumerate(text.splitlines(), 1):
-        line = line.split("#")[0].rstrip()
+    for number, line in enumerate(lines_of(text), 1):
+        line = line.split("#", 1)[0].rstrip(" \t")
         if not line:
             continue
-        if not line[0].isspace():
-            name, colon, line = line.partition(":")
-            name = name.strip()
-            if not colon:
-                raise DescriptionError(path, number, f"`{name}`: a name, a colon and values were expected, or a blank in front where the line goes on with the one above")
-            if name not in NAMES:
-                near = difflib.get_close_matches(name, NAMES, 1)
-                raise DescriptionError(path, number, f"no table is named `{name}`" + (f"; is `{near[0]}` meant?" if near else f"; the names are {', '.join(NAMES)}"))
-            if name in found:
-                raise DescriptionError(path, number, f"{name}: given twice, first in line {found[name].line}")
-            current = found[name] = Statement(path, number, name)
+        if line[0] not in " \t":
+            current, line = statement_at(path, number, line)
+            if current.name in found:
+                raise current.error(f"given twice, first in line {found[current.name].line}")
+            found[current.name] = current
         if current is None:
             raise DescriptionError(path, number, "a line that goes on with the one above was found where a name was expected")
-        if line.strip():
-            current.lines.append((number, line.strip()))
+        line = line.strip(" \t")
+        if line:
+            current.lines.append((number, line))
     return found
 
 
-def layers_of(path, seen=()):
-    """The statements of a description behind those of the one that it starts from."""
-    here = Path(path).resolve()
-    if here in seen:
-        raise DescriptionError(path, None, "starts from itself")
-    found = statements_of(path)
-    base = found.pop("from", None)
-    if base is None:
-        return [found]
-    if len(base.lines) != 1:
-        raise base.error("the name of one file was expected")
-    return layers_of(Path(path).parent / base.lines[0][1], (*seen, here)) + [found]
+def statement_at(path, number, line):
+    """The statement that begins with a line, and what stands behind its name."""
+    name, colon, rest = line.partition(":")
+    name = name.strip(" \t")
+    if not colon:
+        raise DescriptionError(path, number, f"{quoted(name)}: a name, a colon and values were expected, or a blank in front where the line goes on with the one above{strange_text(name)}")
+    if name not in NAMES:
+        near = difflib.get_close_matches(name, NAMES, 1)
+        names = f"; is `{near[0]}` meant?" if near else f"; the names are {', '.join(NAMES)}"
+        raise DescriptionError(path, number, f"no table is named {quoted(name)}{names}{strange_text(name)}")
+    return Statement(path, number, name), rest
 
 
-def last(layers, name):
-    """The last statement of a name, or None."""
-    return next((layer[name] for layer in reversed(layers) if name in layer), None)
+def layers_of(path):
+    """The statements of a description behind those of the ones that it starts from; and the files that were read."""
+    file, here = read_file(path)
+    layers, files = [statements_of(path, text_of(path, file))], {here}
+    while "from" in layers[-1]:
+        statement = layers[-1].pop("from")
+        path, file, here = base_of(statement)
+        if here in files:
+            raise statement.error(f"{path} starts from itself")
+        files.add(here)
+        layers.append(statements_of(path, text_of(path, file)))
+    return layers[::-1], files
+
+
+def base_of(statement):
+    """The description that a statement starts from: its path, its bytes, and what tells the file."""
+    if len(statement.lines) != 1:
+        raise statement.error("the name of one file was expected")
+    path = Path(statement.path).parent / statement.lines[0][1]
+    try:
+        return path, *read_file(path)
+    except FileError as problem:
+        raise statement.error(problem) from None
 
 
 def single(statement):
     """The one value of a statement."""
-    values = [word for _, line in statement.lines for word in line.split()]
+    values = [value for _, line in statement.lines for value in CHUNK.findall(line)]
     if len(values) != 1:
         raise statement.error(f"{len(values)} values where one was expected")
     return values[0]
 
 
-def choice_of(layers, name):
-    choice, statement = CHOICES[name], last(layers, name)
+def choice_of(said, name):
+    choice, statement = CHOICES[name], said.get(name)
     value = single(statement) if statement else choice.default
     if value not in (choice.off, choice.on):
-        raise statement.error(f"`{value}`: {choice.off} or {choice.on} was expected")
+        raise statement.error(f"{quoted(value)}: {choice.off} or {choice.on} was expected{strange_text(value)}")
     return value == choice.on
 
 
-def scalar_of(layers, name, path):
-    statement = last(layers, name)
+def scalar_of(said, name, path):
+    kind, statement = SCALARS[name], said.get(name)
     if statement is None:
-        raise DescriptionError(path, None, f"{name} is not given: {EXPECTED[SCALARS[name]]} was expected")
+        raise DescriptionError(path, None, f"{name} is not given: {EXPECTED[kind]} was expected")
     value = single(statement)
-    word = word_from(SCALARS[name], value)
+    word = word_from(kind, value)
     if word is None:
-        raise statement.error(f"`{value}`: {EXPECTED[SCALARS[name]]} was expected")
+        raise statement.error(misfit_text(kind, value))
     return word
 
 
@@ -260,22 +408,24 @@ class Contents:
     """What a description says of a table: a list of values or one entry for all, and then single entries."""
 
     def __init__(self, table):
-        self.table, self.statement, self.values, self.fill, self.changes = table, None, None, None, []
+        self.table, self.values, self.fill, self.changes = table, None, None, []
+        # the last statement, and the one with the list or the entry for all
+        self.statement = self.listed = None
 
     def take(self, statement):
         """One more statement: it begins the table anew, unless it gives single entries alone."""
         self.statement = statement
         if not statement.lines or any("=" not in line for _, line in statement.lines):
-            self.values, self.fill, self.changes = None, None, []
+            self.values, self.fill, self.changes, self.listed = None, None, [], statement
         for number, line in statement.lines:
             if "=" in line:
                 self.changes.append((statement, number, line))
-            elif line.split()[0] == "all":
+            elif CHUNK.match(line).group() == "all":
                 self.take_all(statement, number, line)
             elif self.fill is not None:
                 raise statement.error("values behind `all`: single entries, as `0 1 2 = 1`, were expected", number)
             else:
-                self.values = (self.values or []) + self.words(statement, number, line, len(self.values or []))
+                self.values = self.words(statement, number, line, self.values)
         if self.values is None and self.fill is None and not self.changes:
             self.values = []
 
@@ -291,20 +441,28 @@ class Contents:
             names = f" ({', '.join(parts)})" if len(parts) > 1 else ""
             raise statement.error(f"{len(words)} values where {len(parts)}{names} were expected for an entry", number)
 
-    def words(self, statement, number, line, before=0):
-        """The words of a line of values, behind so many others."""
-        words = []
-        for text in line.replace(",", " ").split():
-            times, star, value = text.rpartition("*")
-            if star and not re.fullmatch(r"\d{1,7}", times):
-                raise statement.error(f"`{text}`: a repeated value, such as 27*0, was expected", number)
-            word = word_from(self.table.kind, value)
-            if word is None:
-                raise statement.error(f"value {before + len(words)}, `{value}`: {EXPECTED[self.table.kind]} was expected", number)
-            words += [word] * (int(times) if star else 1)
-            if before + len(words) > MOST_WORDS:
-                raise statement.error(f"more than {MOST_WORDS} values", number)
+    def words(self, statement, number, line, words=None):
+        """The words of a line of values, put behind those that were read before it."""
+        words = [] if words is None else words
+        for chunk in CHUNK.findall(line):
+            if TIGHT_COMMA.search(chunk):
+                raise statement.error(f"value {len(words)}, {quoted(chunk)}: {comma_text(self.table.kind, chunk, several=True)}", number)
+            for text in VALUE.findall(chunk):
+                self.put(statement, number, text, words)
         return words
+
+    def put(self, statement, number, text, words):
+        """One value, which may be a repeated one, behind the words."""
+        times, star, value = text.rpartition("*")
+        if star and not COUNT.fullmatch(times):
+            raise statement.error(f"value {len(words)}, {quoted(text)}: a repeated value, such as 27*0, was expected{strange_text(times)}", number)
+        word = word_from(self.table.kind, value)
+        if word is None:
+            raise statement.error(f"value {len(words)}, {misfit_text(self.table.kind, value)}", number)
+        times = int(times) if star else 1
+        if len(words) + times > MOST_WORDS:
+            raise statement.error(f"more than {MOST_WORDS} values", number)
+        words.extend([word] * times)
 
     def count(self):
         """How many entries are listed, or None where the list is not whole."""
@@ -315,13 +473,13 @@ class Contents:
         """The words of the table."""
         table, needed = self.table, words_needed(self.table, sizes)
         if needed > MOST_WORDS:
-            raise DescriptionError(path, None, f"{table.name}: {needed} values, {product_text(table, sizes)}, are more than {MOST_WORDS}")
+            raise DescriptionError(path, None, f"{table.name}: {needed} values are more than {MOST_WORDS}: {product_text(table, sizes)}")
         if self.fill is not None:
             words = self.fill * entries_of(table, sizes)
         elif self.values is not None:
             words = list(self.values)
             if len(words) != needed:
-                raise self.statement.error(f"{len(words)} values where {needed} were expected: {product_text(table, sizes)}")
+                raise self.listed.error(f"{len(words)} values where {needed} were expected: {product_text(table, sizes)}")
         elif table.default is not None:
             words = [table.default] * needed
         else:
@@ -332,56 +490,84 @@ class Contents:
 
     def change(self, words, sizes, statement, number, line):
         """One entry: its indices, an equals sign, its values."""
-        table = self.table
+        parts = len(self.table.parts)
         left, _, right = line.partition("=")
-        names = [name for name, _ in table.indices]
-        index = left.replace(",", " ").split()
-        if not names:
-            raise statement.error("an equals sign, where the values alone were expected", number)
-        if len(index) != len(names) or not all(re.fullmatch(r"\d+", i) for i in index):
-            raise statement.error(f"`{left.strip()}` in front of the equals sign, where numbers for {', '.join(names)} were expected", number)
-        entry = 0
-        for (name, size), i in zip(table.indices, map(int, index)):
-            size = size_of(sizes, size)
-            if i >= size:
-                allowed = f"0 to {size - 1} was expected" if size else "the table is empty"
-                raise statement.error(f"{name} {i}: {allowed}", number)
-            entry = entry * size + i
+        entry = self.entry_at(sizes, statement, number, left)
         values = self.words(statement, number, right)
         self.expect_parts(statement, number, values)
-        words[entry * len(table.parts):(entry + 1) * len(table.parts)] = values
+        words[entry * parts:(entry + 1) * parts] = values
+
+    def entry_at(self, sizes, statement, number, left):
+        """The number of the entry that the indices in front of an equals sign name."""
+        names = [name for name, _ in self.table.indices]
+        if not names:
+            raise statement.error("an equals sign, where the values alone were expected", number)
+        index = VALUE.findall(left)
+        if len(index) != len(names) or not all(map(INDEX.fullmatch, index)):
+            raise statement.error(f"{quoted(left.strip())} in front of the equals sign, where numbers for {', '.join(names)} were expected{strange_text(left)}", number)
+        entry = 0
+        for (name, size), text in zip(self.table.indices, index):
+            length = size_of(sizes, size)
+            # no size has so many digits, and the conversion of many takes long
+            if len(text) > 19 or int(text) >= length:
+                allowed = f"0 to {length - 1} was expected" if length else "the table is empty"
+                raise statement.error(f"{name} {text[:20]}: {allowed}{sizes.origin_text(size)}", number)
+            entry = entry * length + int(text)
+        return entry
 
 
-def measure_of(layers, letter, contents, path):
-    """A measure that is given, or counted."""
-    statement, table = last(layers, letter), COUNTED_FROM[letter]
+def measure_of(said, letter, contents, path):
+    """A measure, and what set it: a statement of its own, or the table that it is counted from."""
+    statement = said.get(letter)
     if statement is None:
-        count = contents[table].count()
-        if count is None:
-            raise DescriptionError(path, None, f"{letter}, the number of {MEASURES[letter]}, is not given, and {table} does not list whole entries to count")
-        return count
+        table = contents[COUNTED_FROM[letter]]
+        count = counted(table, letter, path)
+        return count, f"{letter} = {count} is counted from {table.table.name} at {table.listed.place()}"
     value = single(statement)
-    if not re.fullmatch(r"\d{1,7}", value):
-        raise statement.error(f"`{value}`: a number of {MEASURES[letter]} was expected")
-    return int(value)
+    if not COUNT.fullmatch(value):
+        raise statement.error(f"{quoted(value)}: a number of {MEASURES[letter]} was expected{strange_text(value)}")
+    return int(value), f"{letter} = {int(value)} is stated at {statement.place()}"
+
+
+def counted(table, letter, path):
+    """The entries that a table lists."""
+    count = table.count()
+    if count is None:
+        text = f"{letter}, the number of {MEASURES[letter]}, is not given, and {table.table.name} does not list whole entries to count"
+        raise table.statement.error(text) if table.statement else DescriptionError(path, None, text)
+    return count
+
+
+def form_text(said, compact):
+    """What set the form."""
+    word = CHOICES["form"].on if compact else CHOICES["form"].off
+    return f"the form is {word}, " + (f"stated at {said['form'].place()}" if "form" in said else "by default")
+
+
+# the words of the carton, without the zeros behind them; the sizes; the words of each single value and table by its name; the last statement
+# of each name; what tells the files that were read
+Description = collections.namedtuple("Description", "words sizes held said files")
 
 
 def read_description(path):
-    """The words of the carton that a description asks for, without the zeros behind them; and the sizes."""
-    layers = layers_of(path)
-    contents = {table.name: Contents(table) for table in TABLES}
+    """The carton that a description asks for."""
+    layers, files = layers_of(path)
+    contents, said = {table.name: Contents(table) for table in TABLES}, {}
     for layer in layers:
+        said.update(layer)
         for name, statement in layer.items():
             if name in contents:
                 contents[name].take(statement)
-    on = {name: choice_of(layers, name) for name in CHOICES}
-    measures = {letter: measure_of(layers, letter, contents, path) for letter in MEASURES}
-    sizes = sizes_of(measures, on["form"])
-    words = [EDITION, *measures.values(), sum(on[name] << choice.bit for name, choice in CHOICES.items())]
-    words += [scalar_of(layers, name, path) for name in SCALARS]
-    for table in TABLES:
-        words += contents[table.name].resolve(sizes, path)
-    return words, sizes
+    on = {name: choice_of(said, name) for name in CHOICES}
+    measured = {letter: measure_of(said, letter, contents, path) for letter in MEASURES}
+    sizes = Sizes({letter: value for letter, (value, _) in measured.items()}, on["form"])
+    sizes.set_by({letter: origin for letter, (_, origin) in measured.items()}, form_text(said, on["form"]))
+    held = {name: [scalar_of(said, name, path)] for name in SCALARS}
+    held.update((table.name, contents[table.name].resolve(sizes, path)) for table in TABLES)
+    words = [EDITION, *(sizes[letter] for letter in MEASURES), sum(on[name] << choice.bit for name, choice in CHOICES.items())]
+    for part in held.values():
+        words += part
+    return Description(words, sizes, held, said, files)
 
 
 # ---- blocks
@@ -393,21 +579,61 @@ def check_of(block):
 
 def seal(words):
     """The blocks of these words: zeros to the end of the last one, number and check on each."""
-    file = b""
+    parts = []
     for number, start in enumerate(range(0, len(words), BLOCK_WORDS)):
         part = words[start:start + BLOCK_WORDS]
         block = struct.pack("<63QI", *part, *[0] * (BLOCK_WORDS - len(part)), number)
-        file += block + struct.pack("<I", check_of(block))
-    return file
+        parts += block, struct.pack("<I", check_of(block))
+    return b"".join(parts)
 
 
-def notes_on(words, sizes):
-    """What `key` says of a carton that is well made but too large for it."""
-    blocks = -(-len(words) // BLOCK_WORDS)
+def is_carton(stream):
+    """Whether a file is a carton: whole blocks, at least one, each with its number and check, and the edition in front."""
+    place = 0
+    for block in iter(lambda: stream.read(BLOCK_BYTES), b""):
+        if len(block) < BLOCK_BYTES or struct.unpack("<2I", block[504:]) != (place, check_of(block)):
+            return False
+        if place == 0 and struct.unpack("<Q", block[:8]) != (EDITION,):
+            return False
+        place += 1
+    return place > 0
+
+
+# ---- notes: what is worth a look in a carton that is well made
+
+def notes_on(description):
+    yield from size_notes(description)
+    yield from temperature_notes(description)
+    yield from address_notes(description)
+
+
+def size_notes(description):
+    """What `key` says of a carton that is too large for it."""
+    blocks, work = -(-len(description.words) // BLOCK_WORDS), work_length(description.sizes)
     if blocks > MOST_BLOCKS:
         yield f"{blocks} blocks, and `key` takes {MOST_BLOCKS}: it refuses this carton with 10"
-    elif work_length(sizes) > MOST_WORK:
-        yield f"W is {work_length(sizes)}, and `key` takes {MOST_WORK}: it refuses this carton with 12"
+    elif work > MOST_WORK:
+        yield f"W is {work}, and `key` takes {MOST_WORK}: it refuses this carton with 12"
+
+
+def temperature_notes(description):
+    """A temperature that may be in kelvin."""
+    temperature = number_of(description.held["temperature"][0])
+    highest = max(filter(lambda x: not math.isnan(x), map(number_of, description.held["frequencies"])), default=math.inf)
+    if temperature > 10 * highest:
+        yield (f"{description.said['temperature'].place()}: temperature: {temperature:g} is above ten times the highest frequency, {highest:g}; "
+               f"it is taken in the unit of the frequencies: for frequencies in THz, kelvin times {KELVIN_IN_THZ}")
+
+
+def address_notes(description):
+    """A triplet whose q do not add up to a reciprocal lattice vector."""
+    mesh, points, addresses = ([integer_of(word) for word in description.held[name]] for name in ("mesh", "triplet", "addresses"))
+    if min(mesh) < 1 or min(points) < 0 or max(points) >= description.sizes["G"]:
+        return
+    sums = [sum(addresses[3 * point + d] for point in points) for d in range(3)]
+    if any(total % size for total, size in zip(sums, mesh)):
+        yield (f"{description.said['triplet'].place()}: triplet: the addresses of its points add up to {' '.join(map(str, sums))}; "
+               f"those of a physical triplet add up to multiples of the mesh, {' '.join(map(str, mesh))}")
 
 
 # ---- showing a carton
@@ -471,7 +697,7 @@ def show_words(shown, words, blocks):
     if below:
         shown.wrong(12, f"{', '.join(below)} below 0: the tables are not shown")
         return
-    sizes = sizes_of(measures, bool(words[6] & 1))
+    sizes = Sizes(measures, bool(words[6] & 1))
     needed = 10 + sum(words_needed(table, sizes) for table in TABLES)
     if work_length(sizes) > MOST_WORK:
         shown.wrong(12, f"W is {work_length(sizes)}, where at most {MOST_WORK} was expected")
@@ -515,44 +741,151 @@ def show_table(shown, table, sizes, words):
         shown.say(f"    {'  '.join(entries[at:at + row])}")
 
 
+# ---- writing a carton
+
+TERMINAL = "a carton is no text: name a file with -o, or send it on to a program"
+
+
+def write_standard(file, read=()):
+    """Writes bytes to standard output, whole, unless that is a file that the description was read from."""
+    try:
+        status = os.fstat(1)
+        if stat.S_ISREG(status.st_mode) and identity(status) in read:
+            raise FileError("standard output: is not written: the description is read from it")
+        with open(1, "wb", closefd=False) as stream:
+            stream.write(file)
+    except OSError as problem:
+        raise FileError(f"standard output: cannot be written: {reason(problem)}") from None
+
+
+def write_carton(name, file, read):
+    """Writes a carton to the file of a name, in place of nothing but an empty file or another carton."""
+    try:
+        status = status_of(name)
+        if status is None or stat.S_ISREG(status.st_mode):
+            expect_replaceable(name, status, read)
+            replace_file(os.path.realpath(name), file, status)
+        elif stat.S_ISCHR(status.st_mode) or stat.S_ISFIFO(status.st_mode):
+            write_through(name, file)
+        else:
+            raise FileError(f"{name}: is not written: it is {'a folder' if stat.S_ISDIR(status.st_mode) else 'no file, pipe or terminal'}")
+    except OSError as problem:
+        raise FileError(f"{name}: cannot be written: {reason(problem)}") from None
+
+
+def status_of(name):
+    """The status of the file of a name, or None where there is none."""
+    if not os.path.basename(name):
+        raise FileError(f"{quoted(name)}: is not written: the name of a file was expected")
+    try:
+        return os.stat(name)
+    except FileNotFoundError:
+        return None
+
+
+def expect_replaceable(name, status, read):
+    """Turns away a file that the description was read from, or that is neither empty nor a carton."""
+    if status is None:
+        return
+    if identity(status) in read:
+        raise FileError(f"{name}: is not written: the description is read from it")
+    if not os.access(name, os.W_OK):
+        raise FileError(f"{name}: is not written: it is write-protected")
+    with open(name, "rb") as stream:
+        if status.st_size and not is_carton(stream):
+            raise FileError(f"{name}: is not written: it exists and is no carton; name another file, or remove it first")
+
+
+def replace_file(path, file, status):
+    """Writes a file beside and then gives it its name, so that what was there stays until the new one is whole."""
+    handle, beside = tempfile.mkstemp(prefix=".carton-", dir=os.path.dirname(path))
+    try:
+        with open(handle, "wb") as stream:
+            stream.write(file)
+            stream.flush()
+            os.fsync(handle)
+        os.chmod(beside, stat.S_IMODE(status.st_mode) if status else 0o666 & ~umask())
+        os.replace(beside, path)
+    except BaseException:
+        with contextlib.suppress(OSError):
+            os.unlink(beside)
+        raise
+
+
+def umask():
+    mask = os.umask(0)
+    os.umask(mask)
+    return mask
+
+
+def write_through(name, file):
+    """Writes to a pipe or a device that takes bytes one after the other, such as /dev/null."""
+    with open(name, "wb") as stream:
+        if stream.isatty():
+            raise FileError(TERMINAL)
+        stream.write(file)
+
+
 # ---- the command
 
+def tell(text):
+    """A line to standard error; where that is closed or full, there is nobody to be told."""
+    with contextlib.suppress(OSError):
+        if sys.stderr is not None:
+            print(f"carton: {text}", file=sys.stderr, flush=True)
+
+
+def goes_on(arguments):
+    """Whether the carton goes to standard output."""
+    return arguments.output in (None, STANDARD, "/dev/stdout")
+
+
 def make_command(arguments):
-    words, sizes = read_description(arguments.description)
-    for note in notes_on(words, sizes):
-        print(f"carton: note: {note}", file=sys.stderr)
-    if arguments.output:
-        Path(arguments.output).write_bytes(seal(words))
-    elif sys.stdout.isatty():
-        print("carton: a carton is no text: name a file with -o, or send it on to a program", file=sys.stderr)
-        return 2
+    description = read_description(arguments.description)
+    for note in notes_on(description):
+        tell(f"note: {note}")
+    file = seal(description.words)
+    if not goes_on(arguments):
+        write_carton(arguments.output, file, description.files)
+    elif os.isatty(1):
+        raise FileError(TERMINAL)
     else:
-        sys.stdout.buffer.write(seal(words))
+        write_standard(file, description.files)
     return 0
 
 
 def show_command(arguments):
-    text, right = show(Path(arguments.file).read_bytes())
-    sys.stdout.write(text)
+    file, _ = read_file(arguments.file)
+    text, right = show(file)
+    write_standard(text.encode())
     return 0 if right else 1
 
 
-def main():
+def parser_of_command():
     parser = argparse.ArgumentParser(prog="carton.py", description="Carton files from readable descriptions, and back.")
     commands = parser.add_subparsers(dest="command", required=True)
     make = commands.add_parser("make", help="write the carton of a description")
-    make.add_argument("description")
-    make.add_argument("-o", "--output", metavar="FILE", help="where to; standard output if not given")
+    make.add_argument("description", help="a file, or - for standard input")
+    make.add_argument("-o", "--output", metavar="FILE", help="where to: a new file, an empty one or a carton, which is replaced; standard output if not given")
     make.set_defaults(run=make_command)
     shows = commands.add_parser("show", help="print a carton as a description, and what is wrong with it; status 1 if something is")
-    shows.add_argument("file")
+    shows.add_argument("file", help="a file, or - for standard input")
     shows.set_defaults(run=show_command)
-    arguments = parser.parse_args()
+    return parser
+
+
+def main():
+    arguments = parser_of_command().parse_args()
     try:
         return arguments.run(arguments)
-    except (DescriptionError, OSError) as problem:
-        print(f"carton: {problem}", file=sys.stderr)
+    except CartonError as problem:
+        tell(problem)
+        if arguments.command == "make" and goes_on(arguments) and not os.isatty(1):
+            tell("no whole carton went to standard output: what a program behind it prints, such as `refused 10` of `key`, is no answer to the description")
         return 2
+    except KeyboardInterrupt:
+        tell("interrupted")
+        return 130
 
 
 if __name__ == "__main__":
