@@ -3,7 +3,7 @@ use Prim.Native.Nat.{ℕ, zero, suc, _<_}
 use native.Mathlib.Omega.{arith}
 use mathlib.Core.Path.{_≡_, refl, sym, _∙_}
 use mathlib.Core.Bool.{true, false, true≢false}
-use mathlib.Core.List.{List, [], _∷_}
+use mathlib.Core.List.{[], _∷_}
 use lib.ListN.{replicate}
 use Rattle.phonon.specs.declared.Answer.the-variants.{Accepted}
 use Rattle.phonon.specs.Number.{bits, f0, f1, flagged}

@@ -1,7 +1,7 @@
 -- One triplet worked twice, as demand 3 has it: cell U at two grid points, with all force constants 16, weight 3, temperature 1.0, first weights 2.0 and second
 -- weights 1.0. The second run has a raised cutoff, a further flag and a changed band.
 use Prim.Native.Nat.{ℕ}
-use mathlib.Core.List.{List, [], _∷_, _++_}
+use mathlib.Core.List.{List, [], _∷_}
 use lib.IntN.{pos}
 use lib.Ieee.{Float}
 use lib.ListN.{replicate, set}

@@ -4,8 +4,8 @@ use native.Mathlib.Omega.{arith}
 use native.Mathlib.Decide.{decLt}
 use native.Mathlib.Numerals.{add-one}
 use mathlib.Core.Path.{_≡_, refl, sym, ap, _∙_}
-use mathlib.Core.Bool.{Bool, true, false, _&&_, cond, and-true, and-false, and-assoc}
-use mathlib.Core.List.{List, [], _∷_, _++_}
+use mathlib.Core.Bool.{Bool, true, false, _&&_, and-true, and-false, and-assoc}
+use mathlib.Core.List.{List, [], _∷_}
 use borrow.Author.Tests.{leb-true, eqb-true}
 use lib.Dec.{leb}
 use lib.IntN.{ℤ, pos, negsuc}
@@ -30,17 +30,8 @@ pub all-is : (b : Bool) (bs : List Bool) → allTrue (b ∷ bs) ≡ b && allTrue
 unfolding allTrue
 all-is b bs = after-is b bs
 
-pub all-append-is : (cs bs : List Bool) → allTrue (cs ++ bs) ≡ allTrue cs && allTrue bs
-unfolding allTrue
-all-append-is [] bs = refl
-all-append-is (c ∷ cs) bs =
-    all-is c (cs ++ bs) ∙ ap (c &&_) (all-append-is cs bs) ∙ sym (and-assoc c (allTrue cs) (allTrue bs)) ∙ ap (_&& allTrue bs) (sym (all-is c cs))
-
 pub all-first : (b : Bool) (bs : List Bool) → allTrue (b ∷ bs) ≡ true → (b ≡ true) × (allTrue bs ≡ true)
 all-first b bs e = and-both b (allTrue bs) (sym (all-is b bs) ∙ e)
-
-pub all-append : (cs bs : List Bool) → allTrue (cs ++ bs) ≡ true → (allTrue cs ≡ true) × (allTrue bs ≡ true)
-all-append cs bs e = and-both (allTrue cs) (allTrue bs) (sym (all-append-is cs bs) ∙ e)
 
 -- each test of a list, one by one
 abbrev pub Holds : List Bool → Type 0
@@ -200,9 +191,7 @@ index-facts t e =
 pub record TablesGood (t : Tables) : Type 0 where
   pub measures : measuresOk (t .measures) ≡ true
   pub measured : Measured (t .measures)
-  pub lengths : allTrue (lengthsOf t) ≡ true
   pub sized : TableSizes t
-  pub indices : indicesOf t ≡ true
   pub indexed : Indexed t
 
 pub table-facts : (t : Tables) → lowest (testsOf t) ≡ 0 → TablesGood t
@@ -211,9 +200,7 @@ table-facts t e =
     record {
       measures = h .0;
       measured = measured-facts (t .measures) (h .0);
-      lengths = h .1 .0;
       sized = size-facts t (h .1 .0);
-      indices = h .1 .1 .0;
       indexed = index-facts t (h .1 .1 .0);
     }
 

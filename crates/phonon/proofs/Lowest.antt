@@ -98,7 +98,7 @@ least-given n (t ∷ ts) h =
     go true l e = e
     go false l e = sym (lower-assoc (suc n) (t .number) (lowest ts)) ∙ ap (λ k. lower k (lowest ts)) (lower-least (suc n) (t .number) (omega arith) l) ∙ e
 
-pub most-given : (n : ℕ) (ts : List Test) → most n ts ≡ true → lowest ts ≤ n
+most-given : (n : ℕ) (ts : List Test) → most n ts ≡ true → lowest ts ≤ n
 unfolding lowest
 most-given n [] h = omega arith
 most-given n (t ∷ ts) h =

@@ -1,6 +1,5 @@
 -- The first of three tests that fails.
-use mathlib.Core.Path.{_≡_, refl, sym, _∙_}
-use mathlib.Core.Bool.{true}
+use mathlib.Core.Path.{refl, sym, _∙_}
 use borrow.Author.Needs.{needs}
 use Rattle.phonon.specs.Tests.{allTrue, allTrueAfter}
 use Rattle.phonon.specs.Refusal.{bathLengths}

@@ -1,5 +1,4 @@
 -- The groups of tests each gave a number; the lowest is the refusal.
-use Prim.Native.Nat.{_*_}
 use native.Mathlib.Omega.{arith}
 use mathlib.Core.Path.{_≡_, refl}
 use mathlib.Core.Bool.{true}

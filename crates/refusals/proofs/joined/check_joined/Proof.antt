@@ -1,6 +1,6 @@
 -- The tests of the triplet and those of the bath each gave a number; the lower is the refusal.
 use native.Mathlib.Omega.{arith}
-use mathlib.Core.Path.{_≡_, refl, sym, _∙_}
+use mathlib.Core.Path.{refl, sym, _∙_}
 use borrow.Author.Needs.{needs}
 use Rattle.phonon.specs.Refusal.{tripletRefusal, joinedRefusal}
 use Rattle.phonon.proofs.Lowest.{stop, join}

@@ -3,13 +3,11 @@ use Prim.Native.Nat.{_*_}
 use native.Mathlib.Omega.{arith}
 use mathlib.Core.Path.{_≡_, refl, sym, _∙_}
 use mathlib.Core.Bool.{true}
-use mathlib.Core.List.{List}
 use borrow.Author.Needs.{needs}
 use borrow.Author.Tests.{eqb-true}
-use lib.Ieee.{Float}
 use lib.ListN.{length}
 use Rattle.phonon.specs.Limits.{listOk, sizesOf}
-use Rattle.phonon.specs.Refusal.{measuresOk, lowest, countTests, listRefusal}
+use Rattle.phonon.specs.Refusal.{measuresOk, countTests, listRefusal}
 use Rattle.phonon.proofs.Lowest.{one-fails, none-of-three, lower-none, stop, pass, none-left, join, join3, passing, before-last, at-last}
 use Rattle.phonon.proofs.Accepted.{measured-facts}
 use Rattle.checks.proofs.Laws.{told-good, told-bad}

@@ -2,13 +2,11 @@
 use native.Mathlib.Omega.{arith}
 use mathlib.Core.Path.{_≡_, refl, sym, _∙_}
 use mathlib.Core.Bool.{true}
-use mathlib.Core.List.{List}
 use borrow.Author.Needs.{needs}
-use lib.Ieee.{Float}
 use lib.ListN.{length}
 use Rattle.phonon.specs.Limits.{sizesOf}
-use Rattle.phonon.specs.Refusal.{measuresOk, lowest, tripletRefusal}
-use Rattle.phonon.proofs.Lowest.{none-of-three, stop, join3, none-both, before-last, at-last, pass, none-left}
+use Rattle.phonon.specs.Refusal.{measuresOk, tripletRefusal}
+use Rattle.phonon.proofs.Lowest.{none-of-three, stop, join3, before-last, at-last, pass, none-left}
 use Rattle.phonon.proofs.Accepted.{measured-facts}
 use Rattle.checks.proofs.Laws.{told-good, told-bad}
 use Rattle.checks.proofs.MeasureLaws.{within-told, beyond-told}
