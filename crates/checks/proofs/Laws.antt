@@ -185,13 +185,13 @@ pub record Eight (a b c d e f g h : Float) : Type 0 where
   pub a6 : finite g ≡ true
   pub a7 : finite h ≡ true
 
--- the sums a to h tell of the entries before i
-pub record Summed (s : List Float) (i : ℕ) (a b c d e f g h : Float) : Type 0 where
+-- the sums a to q tell of the entries before i
+pub record Summed (s : List Float) (i : ℕ) (a b c d e f g h j k l m n o p q : Float) : Type 0 where
   pub inside : i ≤ length s
-  pub summed : Eight a b c d e f g h → Passed (λ k. finite (at s k)) (length s) i
+  pub summed : Eight a b c d e f g h → Eight j k l m n o p q → Passed (λ k. finite (at s k)) (length s) i
 
-pub summed-none : (s : List Float) (a b c d e f g h : Float) → Summed s 0 a b c d e f g h
-summed-none s a b c d e f g h = record { inside = omega arith; summed = λ w. passed-none _ _ }
+pub summed-none : (s : List Float) (a b c d e f g h j k l m n o p q : Float) → Summed s 0 a b c d e f g h j k l m n o p q
+summed-none s a b c d e f g h j k l m n o p q = record { inside = omega arith; summed = λ v w. passed-none _ _ }
 
 eight-every : (s : List Float) (i : ℕ) → Eight (at s i) (at s (i + 1)) (at s (i + 2)) (at s (i + 3)) (at s (i + 4)) (at s (i + 5)) (at s (i + 6)) (at s (i + 7)) → everyBelow (λ t. finite (at s (i + t))) 8 ≡ true
 unfolding everyBelow
@@ -199,33 +199,51 @@ eight-every s i w =
     let z : i + 0 ≡ i = omega arith in
     rw (z, w .a0, w .a1, w .a2, w .a3, w .a4, w .a5, w .a6, w .a7) refl
 
--- eight entries more, each added to its sum
-pub summed-more : {s : List Float} {i : ℕ} {a b c d e f g h : Float} → Summed s i a b c d e f g h → i + 8 ≤ length s
-    → Summed s (i + 8) (a ⊕ at s i) (b ⊕ at s (i + 1)) (c ⊕ at s (i + 2)) (d ⊕ at s (i + 3)) (e ⊕ at s (i + 4)) (f ⊕ at s (i + 5)) (g ⊕ at s (i + 6)) (h ⊕ at s (i + 7))
-summed-more {s} {i} {a} {b} {c} {d} {e} {f} {g} {h} w l =
+-- sixteen entries more, each added to its sum
+pub summed-more : {s : List Float} {i : ℕ} {a b c d e f g h j k l m n o p q : Float} → Summed s i a b c d e f g h j k l m n o p q → i + 16 ≤ length s
+    → Summed s (i + 16) (a ⊕ at s i) (b ⊕ at s (i + 1)) (c ⊕ at s (i + 2)) (d ⊕ at s (i + 3)) (e ⊕ at s (i + 4)) (f ⊕ at s (i + 5)) (g ⊕ at s (i + 6)) (h ⊕ at s (i + 7)) (j ⊕ at s (i + 8)) (k ⊕ at s (i + 9)) (l ⊕ at s (i + 10)) (m ⊕ at s (i + 11)) (n ⊕ at s (i + 12)) (o ⊕ at s (i + 13)) (p ⊕ at s (i + 14)) (q ⊕ at s (i + 15))
+summed-more {s} {i} {a} {b} {c} {d} {e} {f} {g} {h} {j} {k} {l} {m} {n} {o} {p} {q} w z =
     record {
-      inside = l;
-      summed = λ z.
-          let p0 = sum-parts a (at s i) (z .a0) in
-          let p1 = sum-parts b (at s (i + 1)) (z .a1) in
-          let p2 = sum-parts c (at s (i + 2)) (z .a2) in
-          let p3 = sum-parts d (at s (i + 3)) (z .a3) in
-          let p4 = sum-parts e (at s (i + 4)) (z .a4) in
-          let p5 = sum-parts f (at s (i + 5)) (z .a5) in
-          let p6 = sum-parts g (at s (i + 6)) (z .a6) in
-          let p7 = sum-parts h (at s (i + 7)) (z .a7) in
-          let before = w .summed (record { a0 = p0 .0; a1 = p1 .0; a2 = p2 .0; a3 = p3 .0; a4 = p4 .0; a5 = p5 .0; a6 = p6 .0; a7 = p7 .0 }) in
-          passed-many 8 before l (eight-every s i (record { a0 = p0 .1; a1 = p1 .1; a2 = p2 .1; a3 = p3 .1; a4 = p4 .1; a5 = p5 .1; a6 = p6 .1; a7 = p7 .1 }));
+      inside = z;
+      summed = λ x y.
+          let p0 = sum-parts a (at s i) (x .a0) in
+          let p1 = sum-parts b (at s (i + 1)) (x .a1) in
+          let p2 = sum-parts c (at s (i + 2)) (x .a2) in
+          let p3 = sum-parts d (at s (i + 3)) (x .a3) in
+          let p4 = sum-parts e (at s (i + 4)) (x .a4) in
+          let p5 = sum-parts f (at s (i + 5)) (x .a5) in
+          let p6 = sum-parts g (at s (i + 6)) (x .a6) in
+          let p7 = sum-parts h (at s (i + 7)) (x .a7) in
+          let p8 = sum-parts j (at s (i + 8)) (y .a0) in
+          let p9 = sum-parts k (at s (i + 9)) (y .a1) in
+          let p10 = sum-parts l (at s (i + 10)) (y .a2) in
+          let p11 = sum-parts m (at s (i + 11)) (y .a3) in
+          let p12 = sum-parts n (at s (i + 12)) (y .a4) in
+          let p13 = sum-parts o (at s (i + 13)) (y .a5) in
+          let p14 = sum-parts p (at s (i + 14)) (y .a6) in
+          let p15 = sum-parts q (at s (i + 15)) (y .a7) in
+          let before = w .summed (record { a0 = p0 .0; a1 = p1 .0; a2 = p2 .0; a3 = p3 .0; a4 = p4 .0; a5 = p5 .0; a6 = p6 .0; a7 = p7 .0 }) (record { a0 = p8 .0; a1 = p9 .0; a2 = p10 .0; a3 = p11 .0; a4 = p12 .0; a5 = p13 .0; a6 = p14 .0; a7 = p15 .0 }) in
+          let eight = passed-many 8 before (omega (arith, z)) (eight-every s i (record { a0 = p0 .1; a1 = p1 .1; a2 = p2 .1; a3 = p3 .1; a4 = p4 .1; a5 = p5 .1; a6 = p6 .1; a7 = p7 .1 })) in
+          let e : (k : ℕ) → i + 8 + k ≡ i + (8 + k) = λ k. omega arith in
+          let sixteen : i + 8 + 8 ≡ i + 16 = omega arith in
+          rw sixteen at (passed-many 8 eight (omega (arith, z)) (eight-every s (i + 8) (rw (e 1, e 2, e 3, e 4, e 5, e 6, e 7) (record { a0 = p8 .1; a1 = p9 .1; a2 = p10 .1; a3 = p11 .1; a4 = p12 .1; a5 = p13 .1; a6 = p14 .1; a7 = p15 .1 }))));
     }
 
--- the joined sum is finite only if the eight are
-pub joined-eight : (a b c d e f g h : Float) → finite (((a ⊕ c) ⊕ (e ⊕ g)) ⊕ ((b ⊕ d) ⊕ (f ⊕ h))) ≡ true → Eight a b c d e f g h
-joined-eight a b c d e f g h w =
-    let t = sum-parts ((a ⊕ c) ⊕ (e ⊕ g)) ((b ⊕ d) ⊕ (f ⊕ h)) w in
-    let l = sum-parts (a ⊕ c) (e ⊕ g) (t .0) in
-    let r = sum-parts (b ⊕ d) (f ⊕ h) (t .1) in
-    let ac = sum-parts a c (l .0) in
-    let eg = sum-parts e g (l .1) in
-    let bd = sum-parts b d (r .0) in
-    let fh = sum-parts f h (r .1) in
-    record { a0 = ac .0; a1 = bd .0; a2 = ac .1; a3 = bd .1; a4 = eg .0; a5 = fh .0; a6 = eg .1; a7 = fh .1 }
+-- the joined sum is finite only if the sixteen are
+four-parts : (a b c d : Float) → finite ((a ⊕ b) ⊕ (c ⊕ d)) ≡ true → (finite a ≡ true) × (finite b ≡ true) × (finite c ≡ true) × (finite d ≡ true)
+four-parts a b c d w =
+    let t = sum-parts (a ⊕ b) (c ⊕ d) w in
+    let l = sum-parts a b (t .0) in
+    let r = sum-parts c d (t .1) in
+    (l .0, l .1, r .0, r .1)
+
+pub joined-sixteen : (a b c d e f g h j k l m n o p q : Float) → finite ((((a ⊕ c) ⊕ (e ⊕ g)) ⊕ ((j ⊕ l) ⊕ (n ⊕ p))) ⊕ (((b ⊕ d) ⊕ (f ⊕ h)) ⊕ ((k ⊕ m) ⊕ (o ⊕ q)))) ≡ true → Eight a b c d e f g h × Eight j k l m n o p q
+joined-sixteen a b c d e f g h j k l m n o p q w =
+    let t = sum-parts (((a ⊕ c) ⊕ (e ⊕ g)) ⊕ ((j ⊕ l) ⊕ (n ⊕ p))) (((b ⊕ d) ⊕ (f ⊕ h)) ⊕ ((k ⊕ m) ⊕ (o ⊕ q))) w in
+    let u = sum-parts ((a ⊕ c) ⊕ (e ⊕ g)) ((j ⊕ l) ⊕ (n ⊕ p)) (t .0) in
+    let v = sum-parts ((b ⊕ d) ⊕ (f ⊕ h)) ((k ⊕ m) ⊕ (o ⊕ q)) (t .1) in
+    let x0 = four-parts a c e g (u .0) in
+    let x1 = four-parts j l n p (u .1) in
+    let y0 = four-parts b d f h (v .0) in
+    let y1 = four-parts k m o q (v .1) in
+    (record { a0 = x0 .0; a1 = y0 .0; a2 = x0 .1; a3 = y0 .1; a4 = x0 .2; a5 = y0 .2; a6 = x0 .3; a7 = y0 .3 }, record { a0 = x1 .0; a1 = y1 .0; a2 = x1 .1; a3 = y1 .1; a4 = x1 .2; a5 = y1 .2; a6 = x1 .3; a7 = y1 .3 })

@@ -7,7 +7,7 @@ ghost use Prim.Native.Nat.{_<_, _≤_};
 ghost use lib.IntN.{pos};
 ghost use lib.ListN.{length};
 ghost use lib.Ieee.{fin};
-ghost use Rattle.phonon.specs.Number.{_⊕_, _⊗_, _⊘_, f1, at, float, whole};
+ghost use Rattle.phonon.specs.Number.{_⊕_, _⊖_, _⊗_, _⊘_, f1, at, float, whole};
 ghost use Rattle.phonon.specs.Exp as Exp;
 ghost use Rattle.phonon.specs.Trig as Trig;
 ghost use Rattle.phonon.specs.Funcs.{boseEinstein};
@@ -237,6 +237,101 @@ pub fn sin_cos(x: f64) -> SinCos
     SinCos {
         sin: 0.0 / 0.0,
         cos: 0.0 / 0.0,
+    }
+}
+
+// ---- three numbers at a time: their series do not wait for one another
+
+// Both series of three numbers, the sine's and then the cosine's of each. The divisors are lent: a constant array that is read in
+// a loop is laid out anew in every turn.
+fn three_series(x: f64, y: f64, z: f64, sines: &[f64; 9], cosines: &[f64; 9]) -> [f64; 6]
+    requires { ⌜ (length (now sines) ≡ 9) × (length (now cosines) ≡ 9) ⌝ }
+    ensures { λ r. ⌜ r ≡ foldl (λ p d. f1 ⊖ p ⊗ (x ⊘ d)) f1 (now (sines .entry))
+        ∷ foldl (λ p d. f1 ⊖ p ⊗ (x ⊘ d)) f1 (now (cosines .entry))
+        ∷ foldl (λ p d. f1 ⊖ p ⊗ (y ⊘ d)) f1 (now (sines .entry))
+        ∷ foldl (λ p d. f1 ⊖ p ⊗ (y ⊘ d)) f1 (now (cosines .entry))
+        ∷ foldl (λ p d. f1 ⊖ p ⊗ (z ⊘ d)) f1 (now (sines .entry))
+        ∷ foldl (λ p d. f1 ⊖ p ⊗ (z ⊘ d)) f1 (now (cosines .entry))
+        ∷ [] ⌝ }
+{
+    let mut s = 1.0;
+    let mut c = 1.0;
+    let mut t = 1.0;
+    let mut d = 1.0;
+    let mut u = 1.0;
+    let mut e = 1.0;
+    let mut i = 0usize;
+    while i < 9 {
+        let a = sines[i];
+        let b = cosines[i];
+        s = 1.0 - s * (x / a);
+        c = 1.0 - c * (x / b);
+        t = 1.0 - t * (y / a);
+        d = 1.0 - d * (y / b);
+        u = 1.0 - u * (z / a);
+        e = 1.0 - e * (z / b);
+        i += 1;
+    }
+    [s, c, t, d, u, e]
+}
+
+fn in_domain(x: f64) -> bool
+    ensures { λ r. ⌜ r ≡ Trig.inDomain x ⌝ }
+{
+    (x >= -1048576.0) & (x <= 1048576.0)
+}
+
+// What is left of x after the nearest number of quarter turns, and that number mod 4.
+struct Nearest {
+    rest: f64,
+    quadrant: u64,
+}
+
+fn quartered(x: f64) -> Nearest
+    requires { ⌜ Trig.inDomain x ≡ true ⌝ }
+    ensures { λ r. ⌜ (r .rest ≡ Trig.reduced x (float (Trig.floor (Trig.quarters x))))
+        × (r .quadrant ≡ Trig.quadrant (Trig.floor (Trig.quarters x)))
+        × (r .quadrant < 4) ⌝ }
+{
+    let f = floor_parts(x * TWO_OVER_PI + 0.5);
+    let k = f.whole;
+    Nearest {
+        rest: ((x - k * HALF_PI_HIGH) - k * HALF_PI_MIDDLE) - k * HALF_PI_LOW,
+        quadrant: f.quadrant,
+    }
+}
+
+// The sines and the cosines of three numbers.
+pub struct ThreeSinCos {
+    pub first: SinCos,
+    pub second: SinCos,
+    pub third: SinCos,
+}
+
+pub fn sin_cos_three(x: f64, y: f64, z: f64) -> ThreeSinCos
+    ensures { λ r. ⌜ (r .first ≡ Trig.sinCos x) × (r .second ≡ Trig.sinCos y) × (r .third ≡ Trig.sinCos z) ⌝ }
+{
+    if in_domain(x) & in_domain(y) & in_domain(z) {
+        let a = quartered(x);
+        let b = quartered(y);
+        let c = quartered(z);
+        let p = three_series(
+            a.rest * a.rest,
+            b.rest * b.rest,
+            c.rest * c.rest,
+            &SINE_DIVISORS,
+            &COSINE_DIVISORS,
+        );
+        return ThreeSinCos {
+            first: turned(a.quadrant, a.rest, [p[0], p[1]]),
+            second: turned(b.quadrant, b.rest, [p[2], p[3]]),
+            third: turned(c.quadrant, c.rest, [p[4], p[5]]),
+        };
+    }
+    ThreeSinCos {
+        first: sin_cos(x),
+        second: sin_cos(y),
+        third: sin_cos(z),
     }
 }
 

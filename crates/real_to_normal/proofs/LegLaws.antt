@@ -10,11 +10,12 @@ use Rattle.phonon.specs.Sets.{Legs}
 use Rattle.phonon.specs.Interaction.{leg}
 use Rattle.phonon.specs.RealToReciprocal.{phaseFactorEntry, phaseFactors}
 use Rattle.phonon.specs.ReciprocalToNormal.{inverseRoot, inverseRoots, column}
-use Rattle.planes.specs.Split.{WroteSplit}
 use Rattle.planes.specs.Region.{Wrote, SameOutside}
 use Rattle.planes.specs.Layout.{columnIn, numbersIn}
-use Rattle.planes.proofs.RegionLaws.{outside-then, outside-wider, outside-split}
-use Rattle.planes.proofs.WorkLaws.{column-below, numbers-below, reals-below, numbers-wrote, reals-wrote, outside-wrote}
+use Rattle.planes.proofs.SplitLaws.{split-same}
+use Rattle.planes.proofs.RegionLaws.{outside-then, outside-wider}
+use Rattle.planes.proofs.WorkLaws.{column-below, reals-below, numbers-wrote, reals-wrote, outside-wrote}
+use Rattle.real_to_reciprocal.specs.Three.{WroteThree}
 use Rattle.real_to_normal.specs.Work.{columnsAt, factorsAt, preAt, Prepared}
 
 -- ---- scaled eigenvectors
@@ -54,42 +55,30 @@ module _ (P : ℕ) (eig : List Float) (g0 g1 g2 : ℕ) {l l₁ l₂ l₃ : List 
 
 -- ---- phase factors
 
-module _ (P S : ℕ) (vectors : List Float) (multiplicity : List ℤ) (q : Legs (List Float)) {l l₁ l₂ l₃ : List Float}
-    (w₀ : WroteSplit l l₁ (columnsAt P 3) (P * S) (P * S) (phaseFactorEntry P S vectors multiplicity (q .leg0)))
-    (w₁ : WroteSplit l₁ l₂ (columnsAt P 3 + 2 * (P * S)) (P * S) (P * S) (phaseFactorEntry P S vectors multiplicity (q .leg1)))
-    (w₂ : WroteSplit l₂ l₃ (columnsAt P 3 + 2 * (P * S) + 2 * (P * S)) (P * S) (P * S) (phaseFactorEntry P S vectors multiplicity (q .leg2))) where
+module _ (P S : ℕ) (vectors : List Float) (multiplicity : List ℤ) (q : Legs (List Float)) {l l₁ : List Float}
+    (w : WroteThree l l₁ (columnsAt P 3) (columnsAt P 3 + 2 * (P * S)) (columnsAt P 3 + 2 * (P * S) + 2 * (P * S)) (P * S) 0 (P * S)
+    (phaseFactorEntry P S vectors multiplicity (q .leg0)) (phaseFactorEntry P S vectors multiplicity (q .leg1)) (phaseFactorEntry P S vectors multiplicity (q .leg2))) where
   abbrev N : ℕ
   N = P * S
 
   abbrev F : ℕ
   F = columnsAt P 3
 
-  k₀ : SameOutside l l₁ F (F + 2 * N)
-  k₀ = outside-split F (F + 2 * N) (omega arith) (omega arith) refl w₀
-
-  k₁ : SameOutside l₁ l₂ (F + 2 * N) (F + 2 * N + 2 * N)
-  k₁ = outside-split (F + 2 * N) (F + 2 * N + 2 * N) (omega arith) (omega arith) refl w₁
-
-  k₂ : SameOutside l₂ l₃ (F + 2 * N + 2 * N) (F + 2 * N + 2 * N + 2 * N)
-  k₂ = outside-split (F + 2 * N + 2 * N) (F + 2 * N + 2 * N + 2 * N) (omega arith) (omega arith) refl w₂
-
-  pub legs-factored : (x : ℕ) → x < 3 → numbersIn l₃ (factorsAt P S x) (P * S) (P * S) ≡ phaseFactors P S vectors multiplicity (leg q x)
+  pub legs-factored : (x : ℕ) → x < 3 → numbersIn l₁ (factorsAt P S x) (P * S) (P * S) ≡ phaseFactors P S vectors multiplicity (leg q x)
   unfolding phaseFactors
   legs-factored zero h =
       let e : F + 0 * (2 * N) ≡ F = omega arith in
-      ap (λ o. numbersIn l₃ o N N) e ∙ numbers-below k₂ F N N (omega arith) ∙ numbers-below k₁ F N N (omega arith) ∙ numbers-wrote w₀
+      ap (λ o. numbersIn l₁ o N N) e ∙ numbers-wrote (split-same (λ k p. w .first k (omega arith) p))
   legs-factored (suc zero) h =
       let e : F + 1 * (2 * N) ≡ F + 2 * N = omega arith in
-      ap (λ o. numbersIn l₃ o N N) e ∙ numbers-below k₂ (F + 2 * N) N N (omega arith) ∙ numbers-wrote w₁
+      ap (λ o. numbersIn l₁ o N N) e ∙ numbers-wrote (split-same (λ k p. w .second k (omega arith) p))
   legs-factored (suc (suc zero)) h =
       let e : F + 2 * (2 * N) ≡ F + 2 * N + 2 * N = omega arith in
-      ap (λ o. numbersIn l₃ o N N) e ∙ numbers-wrote w₂
+      ap (λ o. numbersIn l₁ o N N) e ∙ numbers-wrote (split-same (λ k p. w .third k (omega arith) p))
   legs-factored (suc (suc (suc x))) h = absurd (omega arith)
 
-  pub factored-outside : SameOutside l l₃ F (preAt P S)
-  factored-outside =
-      outside-then (outside-wider F (preAt P S) (omega arith) (omega arith) k₀)
-      (outside-then (outside-wider F (preAt P S) (omega arith) (omega arith) k₁) (outside-wider F (preAt P S) (omega arith) (omega arith) k₂))
+  pub factored-outside : SameOutside l l₁ F (preAt P S)
+  factored-outside = record { size = w .size; before = w .before; after = λ j p. w .after j (omega arith) }
 
 -- ---- all of it
 

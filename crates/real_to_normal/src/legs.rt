@@ -57,9 +57,7 @@ fn factor_legs(
     let f0 = np + 3 * (2 * d);
     let f1 = f0 + 2 * n;
     let f2 = f1 + 2 * n;
-    phase_factors(w, f0, q0, vectors, multiplicity, np, ns);
-    phase_factors(w, f1, q1, vectors, multiplicity, np, ns);
-    phase_factors(w, f2, q2, vectors, multiplicity, np, ns);
+    phase_factors(w, f0, f1, f2, q0, q1, q2, vectors, multiplicity, np, ns);
 }
 
 // All that the legs give: inverse roots, scaled eigenvectors, phase factors.

@@ -2,6 +2,7 @@
 pub mod QLaws
 pub mod TestLaws
 pub mod PhaseLaws
+pub mod ThreeLaws
 pub mod CopyLaws
 pub mod PairLaws
 pub mod ElementLaws

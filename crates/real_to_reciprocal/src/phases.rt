@@ -1,9 +1,9 @@
 // q vectors, and the phase factors and pre-factors that they give.
-use common::cmplx_add;
 use common::cmplx_scale;
 use common::float_of;
 use common::float_of_count;
 use funcs::sin_cos;
+use funcs::sin_cos_three;
 use phonon::Complex;
 use planes::index_at;
 use planes::put_split;
@@ -13,8 +13,10 @@ ghost use lib.IntN.{pos};
 ghost use lib.ListN.{length};
 ghost use Rattle.phonon.specs.Number.{_⊕_, _⊗_, _⊘_, float, index, int};
 ghost use Rattle.phonon.specs.declared.Complex.{Complex};
+ghost use Rattle.phonon.specs.Common.{cadd};
 ghost use Rattle.phonon.specs.RealToReciprocal as Def;
 ghost use Rattle.planes.specs.Split.{WroteSplit};
+ghost use Rattle.real_to_reciprocal.specs.Three.{WroteThree};
 ghost use Rattle.real_to_reciprocal.specs.Shape.{Anchored, Ranged};
 
 // 400921FB54442D18
@@ -83,61 +85,150 @@ fn factor_of(t: Turn) -> Complex
     Complex { re: t.re, im: t.im }
 }
 
-// The mean of the phase factors of `count` vectors, from vector `start` on.
-fn get_phase_factor(q: &[f64; 3], vectors: &[f64], count: usize, start: usize) -> Complex
-    requires { ⌜ 3 * (start + count) ≤ length (now vectors) ⌝ }
-    ensures { λ r. ⌜ r ≡ Def.phaseFactor (now (q .entry)) (now (vectors .entry)) (pos count) (pos start) ⌝ }
-{
-    let mut sum = Complex { re: 0.0, im: 0.0 };
-    for i in 0..count {
-        let turn = cis(phase(q, vectors, start + i));
-        sum = cmplx_add(sum, factor_of(turn));
-    }
-    cmplx_scale(sum, 1.0 / float_of_count(count))
+// A number of each leg.
+struct Factors {
+    leg0: Complex,
+    leg1: Complex,
+    leg2: Complex,
 }
 
-// The phase factors of atom i and each supercell atom, as ns numbers in planes from `off` on.
+// The sums of the three legs with the factors of one vector more, whose phases at the three q are x, y and z. Worked at
+// once they do not wait for one another.
+fn add_factors(f: Factors, x: f64, y: f64, z: f64) -> Factors
+    ensures { λ r. ⌜ (r .leg0 ≡ cadd (f .leg0) (Def.cis x)) × (r .leg1 ≡ cadd (f .leg1) (Def.cis y)) × (r .leg2 ≡ cadd (f .leg2) (Def.cis z)) ⌝ }
+{
+    let t = sin_cos_three(x, y, z);
+    Factors {
+        leg0: Complex {
+            re: f.leg0.re + t.first.cos,
+            im: f.leg0.im + t.first.sin,
+        },
+        leg1: Complex {
+            re: f.leg1.re + t.second.cos,
+            im: f.leg1.im + t.second.sin,
+        },
+        leg2: Complex {
+            re: f.leg2.re + t.third.cos,
+            im: f.leg2.im + t.third.sin,
+        },
+    }
+}
+
+// The means of the phase factors of `count` vectors, from vector `start` on, at the three q.
+fn get_phase_factors(
+    q0: &[f64; 3],
+    q1: &[f64; 3],
+    q2: &[f64; 3],
+    vectors: &[f64],
+    count: usize,
+    start: usize,
+) -> Factors
+    requires { ⌜ 3 * (start + count) ≤ length (now vectors) ⌝ }
+    ensures { λ r. ⌜ (r .leg0 ≡ Def.phaseFactor (now (q0 .entry)) (now (vectors .entry)) (pos count) (pos start))
+        × (r .leg1 ≡ Def.phaseFactor (now (q1 .entry)) (now (vectors .entry)) (pos count) (pos start))
+        × (r .leg2 ≡ Def.phaseFactor (now (q2 .entry)) (now (vectors .entry)) (pos count) (pos start)) ⌝ }
+{
+    let zero = Complex { re: 0.0, im: 0.0 };
+    let mut sum = Factors {
+        leg0: zero,
+        leg1: zero,
+        leg2: zero,
+    };
+    for i in 0..count {
+        let v = start + i;
+        let x = phase(q0, vectors, v);
+        let y = phase(q1, vectors, v);
+        let z = phase(q2, vectors, v);
+        sum = add_factors(sum, x, y, z);
+    }
+    let s = 1.0 / float_of_count(count);
+    Factors {
+        leg0: cmplx_scale(sum.leg0, s),
+        leg1: cmplx_scale(sum.leg1, s),
+        leg2: cmplx_scale(sum.leg2, s),
+    }
+}
+
+// The phase factors of atom i and each supercell atom, at the three q: numbers i * ns to i * ns + ns of the arrays at f0, f1
+// and f2, whose planes are d apart.
 fn phase_factor_row(
     w: &mut [f64],
-    off: usize,
+    f0: usize,
+    f1: usize,
+    f2: usize,
     d: usize,
-    q: &[f64; 3],
+    q0: &[f64; 3],
+    q1: &[f64; 3],
+    q2: &[f64; 3],
     vectors: &[f64],
     multiplicity: &[i64],
     np: usize,
     ns: usize,
     i: usize,
 )
-    requires { ⌜ (i < np) × (ns ≤ d) × (off + d + ns ≤ length (now w)) × Ranged (now vectors) (now multiplicity) (ns * np) ⌝ }
-    ensures { λ _. ⌜ WroteSplit (now (w .entry)) (now (w .exit)) off d ns
-        (λ j. Def.phaseFactor (now (q .entry)) (now (vectors .entry)) (int (now (multiplicity .entry)) (2 * (j * np + i)))
-        (int (now (multiplicity .entry)) (2 * (j * np + i) + 1))) ⌝ }
+    requires { ⌜ (i < np)
+        × (np * ns ≤ d)
+        × (f0 + 2 * d ≤ f1)
+        × (f1 + 2 * d ≤ f2)
+        × (f2 + 2 * d ≤ length (now w))
+        × Ranged (now vectors) (now multiplicity) (ns * np) ⌝ }
+    ensures { λ _. ⌜ WroteThree (now (w .entry)) (now (w .exit)) f0 f1 f2 d (i * ns) (i * ns + ns)
+        (Def.phaseFactorEntry np ns (now (vectors .entry)) (now (multiplicity .entry)) (now (q0 .entry)))
+        (Def.phaseFactorEntry np ns (now (vectors .entry)) (now (multiplicity .entry)) (now (q1 .entry)))
+        (Def.phaseFactorEntry np ns (now (vectors .entry)) (now (multiplicity .entry)) (now (q2 .entry))) ⌝ }
 {
     for j in 0..ns {
         let n = 2 * (j * np + i);
         let count = index_at(multiplicity, n);
         let start = index_at(multiplicity, n + 1);
-        put_split(w, off, d, j, get_phase_factor(q, vectors, count, start));
+        let z = get_phase_factors(q0, q1, q2, vectors, count, start);
+        let k = i * ns + j;
+        put_split(w, f0, d, k, z.leg0);
+        put_split(w, f1, d, k, z.leg1);
+        put_split(w, f2, d, k, z.leg2);
     }
 }
 
-// The phase factors of one leg, whose q is given: np * ns numbers in planes from `off` on.
+// The phase factors of the three legs, whose q are given: of each np * ns numbers in planes, from f0, f1 and f2 on.
 pub fn phase_factors(
     w: &mut [f64],
-    off: usize,
-    q: &[f64; 3],
+    f0: usize,
+    f1: usize,
+    f2: usize,
+    q0: &[f64; 3],
+    q1: &[f64; 3],
+    q2: &[f64; 3],
     vectors: &[f64],
     multiplicity: &[i64],
     np: usize,
     ns: usize,
 )
-    requires { ⌜ (off + 2 * (np * ns) ≤ length (now w)) × Ranged (now vectors) (now multiplicity) (ns * np) ⌝ }
-    ensures { λ _. ⌜ WroteSplit (now (w .entry)) (now (w .exit)) off (np * ns) (np * ns)
-        (Def.phaseFactorEntry np ns (now (vectors .entry)) (now (multiplicity .entry)) (now (q .entry))) ⌝ }
+    requires { ⌜ (f0 + 2 * (np * ns) ≤ f1)
+        × (f1 + 2 * (np * ns) ≤ f2)
+        × (f2 + 2 * (np * ns) ≤ length (now w))
+        × Ranged (now vectors) (now multiplicity) (ns * np) ⌝ }
+    ensures { λ _. ⌜ WroteThree (now (w .entry)) (now (w .exit)) f0 f1 f2 (np * ns) 0 (np * ns)
+        (Def.phaseFactorEntry np ns (now (vectors .entry)) (now (multiplicity .entry)) (now (q0 .entry)))
+        (Def.phaseFactorEntry np ns (now (vectors .entry)) (now (multiplicity .entry)) (now (q1 .entry)))
+        (Def.phaseFactorEntry np ns (now (vectors .entry)) (now (multiplicity .entry)) (now (q2 .entry))) ⌝ }
 {
     let d = np * ns;
     for i in 0..np {
-        phase_factor_row(w, off + i * ns, d, q, vectors, multiplicity, np, ns, i);
+        phase_factor_row(
+            w,
+            f0,
+            f1,
+            f2,
+            d,
+            q0,
+            q1,
+            q2,
+            vectors,
+            multiplicity,
+            np,
+            ns,
+            i,
+        );
     }
 }
 

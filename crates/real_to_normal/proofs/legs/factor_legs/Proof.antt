@@ -1,4 +1,4 @@
--- Three calls, each of its own stretch of the work buffer; what the first two wrote stays.
+-- One call, which writes the stretches of all three legs.
 use mathlib.Core.List.{List}
 use lib.Ieee.{Float}
 use Rattle.phonon.specs.Sets.{Legs}
@@ -44,27 +44,16 @@ add-f2 c = search needs
 phase-factors-requires : tie.Need-phase-factors-requires
 phase-factors-requires c κs = search needs
 
-phase-factors-requires-2 : tie.Need-phase-factors-requires-2
-phase-factors-requires-2 c κs = search needs
-
-phase-factors-requires-3 : tie.Need-phase-factors-requires-3
-phase-factors-requires-3 c κs = search needs
-
 same-length : tie.Need-same-length
 same-length c = search needs
 
 returns : tie.Need-returns
 returns c =
-    let w3 = c .before .before in
-    let w2 = w3 .before .before .before .before in
-    let w1 = w2 .before .before .before .before in
-    let start = w1 .before .before .before .before in
+    let w = c .before .before in
+    let start = w .before .before .before .before in
     let a = start .args in
     let q : Legs (List Float) = record { leg0 = a .q0 .now; leg1 = a .q1 .now; leg2 = a .q2 .now } in
-    let w₀ = w1 .phase-factors .ensures in
-    let w₁ = w2 .phase-factors2 .ensures in
-    let w₂ = w3 .phase-factors3 .ensures in
-    (legs-factored (a .np) (a .ns) (a .vectors .now) (a .multiplicity .now) q w₀ w₁ w₂, factored-outside (a .np) (a .ns) (a .vectors .now) (a .multiplicity .now) q w₀ w₁ w₂)
+    (legs-factored (a .np) (a .ns) (a .vectors .now) (a .multiplicity .now) q (w .phase-factors .ensures), factored-outside (a .np) (a .ns) (a .vectors .now) (a .multiplicity .now) q (w .phase-factors .ensures))
 
 pub factor-legs-spec : {M : Type 1} → statement M
 factor-legs-spec =
@@ -82,7 +71,5 @@ factor-legs-spec =
     mul-f2
     add-f2
     phase-factors-requires
-    phase-factors-requires-2
-    phase-factors-requires-3
     same-length
     returns)

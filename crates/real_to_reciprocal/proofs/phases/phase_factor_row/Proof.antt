@@ -1,42 +1,48 @@
 -- The phase factors of one atom: after j turns those of j supercell atoms, each by its entry of the multiplicities.
-use mathlib.Core.Path.{_≡_}
+use mathlib.Core.Path.{_≡_, ap, _∙_}
 use Prim.Native.Nat.{_+_, _*_, _-_, _<_, _≤_}
-use Rattle.phonon.specs.Number.{int}
-use Rattle.phonon.specs.RealToReciprocal.{phaseFactor}
+use Rattle.phonon.specs.RealToReciprocal.{phaseFactorEntry}
 use Rattle.phonon.proofs.Laws.{pair-lt}
-use Rattle.planes.specs.Split.{WroteSplit}
-use Rattle.planes.proofs.SplitLaws.{split-none, split-step}
+use Rattle.real_to_reciprocal.specs.Three.{WroteThree}
 use Rattle.real_to_reciprocal.proofs.TestLaws.{ranged-at}
-use Rattle.real_to_reciprocal.proofs.PhaseLaws.{factor-at}
+use Rattle.real_to_reciprocal.proofs.PhaseLaws.{factor-at, row-entry}
+use Rattle.real_to_reciprocal.proofs.ThreeLaws.{three-none, three-step}
 use native.Mathlib.Omega.{arith}
+use lib.ListN.{length, length-set}
 use Rattle.real_to_reciprocal.proofs.phases.phase_factor_row.Statement.{statement}
 use Rattle.real_to_reciprocal.proofs.phases.phase_factor_row.Tie as tie
 
 abbrev Inv-loop : tie.InvT-loop
-Inv-loop w₀ off d q vectors multiplicity np ns i j₀ w j =
-    (j ≤ ns) × WroteSplit w₀ w off d j (λ k. phaseFactor q vectors (int multiplicity (2 * (k * np + i))) (int multiplicity (2 * (k * np + i) + 1)))
+Inv-loop w₀ f0 f1 f2 d q0 q1 q2 vectors multiplicity np ns i j₀ w j =
+    (j ≤ ns)
+    × WroteThree w₀ w f0 f1 f2 d (i * ns) (i * ns + j) (phaseFactorEntry np ns vectors multiplicity q0) (phaseFactorEntry np ns vectors multiplicity q1) (phaseFactorEntry np ns vectors multiplicity q2)
 
 abbrev μ-loop : tie.MeasureT-loop
-μ-loop w₀ off d q vectors multiplicity np ns i j₀ w j = ns - j
+μ-loop w₀ f0 f1 f2 d q0 q1 q2 vectors multiplicity np ns i j₀ w j = ns - j
 
--- the entry of supercell atom j is in the table
+-- the entry of supercell atom j is in the table, and its number in the array
 below : (c : tie.In-loop Inv-loop μ-loop) → c .before .loop .j * c .before .before .before .before .args .np + c .before .before .before .before .args .i < c .before .before .before .before .args .ns * c .before .before .before .before .args .np
 below c = pair-lt (c .loop-test .taken) (c .before .before .before .before .pre .0)
 
+inside : (c : tie.In-loop Inv-loop μ-loop) → c .before .before .before .before .args .i * c .before .before .before .before .args .ns + c .before .loop .j < c .before .before .before .before .args .np * c .before .before .before .before .args .ns
+inside c = pair-lt (c .before .before .before .before .pre .0) (c .loop-test .taken)
+
 loop-holds : tie.Need-loop-holds Inv-loop μ-loop
-loop-holds c = (omega arith, split-none _ _ _ _)
+loop-holds c =
+    let e : c .before .before .args .i * c .before .before .args .ns + 0 ≡ c .before .before .args .i * c .before .before .args .ns = omega arith in
+    (omega arith, rw e (three-none _ _ _ _ _ _ _ _ _))
 
 mul-n : tie.Need-mul-n Inv-loop μ-loop
-mul-n c = omega (arith, below (c))
+mul-n c = omega (arith, below c)
 
 add-n : tie.Need-add-n Inv-loop μ-loop
-add-n c = omega (arith, below (c))
+add-n c = omega (arith, below c)
 
 mul-n-2 : tie.Need-mul-n-2 Inv-loop μ-loop
-mul-n-2 c = omega (arith, below (c))
+mul-n-2 c = omega (arith, below c)
 
 index-at-requires : tie.Need-index-at-requires Inv-loop μ-loop
-index-at-requires c κs = omega (arith, below (c))
+index-at-requires c κs = omega (arith, below c)
 
 add-index-at : tie.Need-add-index-at Inv-loop μ-loop
 add-index-at c = omega (arith, below (c .before))
@@ -44,29 +50,51 @@ add-index-at c = omega (arith, below (c .before))
 index-at-requires-2 : tie.Need-index-at-requires-2 Inv-loop μ-loop
 index-at-requires-2 c κs = omega (arith, below (c .before))
 
-get-phase-factor-requires : tie.Need-get-phase-factor-requires Inv-loop μ-loop
-get-phase-factor-requires c κs =
-    let start = c .before .before .before .before .before .before .before in
-    let r = ranged-at (start .pre .3) _ (below (c .before .before .before)) in
-    omega (arith, r .ends, start .pre .3 .room, c .before .before .index-at .ensures, c .before .index-at2 .ensures)
+get-phase-factors-requires : tie.Need-get-phase-factors-requires Inv-loop μ-loop
+get-phase-factors-requires c κs =
+    let start = c .before .before .before .before .before .before in
+    let r = ranged-at (start .pre .5) _ (below (c .before .before)) in
+    omega (arith, r .ends, start .pre .5 .room, c .before .index-at .ensures, c .index-at2 .ensures)
+
+mul-k : tie.Need-mul-k Inv-loop μ-loop
+mul-k c = omega (arith, inside (c .before .before .before))
+
+add-k : tie.Need-add-k Inv-loop μ-loop
+add-k c = omega (arith, inside (c .before .before .before))
 
 put-split-requires : tie.Need-put-split-requires Inv-loop μ-loop
-put-split-requires c κs = omega (arith, c .before .before .before .before .before .loop .inv .1 .size)
+put-split-requires c κs = omega (arith, inside (c .before .before .before .before), c .before .before .before .before .before .loop .inv .1 .size)
+
+put-split-requires-2 : tie.Need-put-split-requires-2 Inv-loop μ-loop
+put-split-requires-2 c κs = omega (arith, inside (c .before .before .before .before .before .before .before .before), c .before .before .before .before .before .before .before .before .before .loop .inv .1 .size, simp length-set at (ap length (c .before .before .before .put-split .ensures)))
+
+put-split-requires-3 : tie.Need-put-split-requires-3 Inv-loop μ-loop
+put-split-requires-3 c κs = omega (arith, inside (c .before .before .before .before .before .before .before .before .before .before .before .before), c .before .before .before .before .before .before .before .before .before .before .before .before .before .loop .inv .1 .size, simp length-set at (ap length (c .before .before .before .before .before .before .before .put-split .ensures)), simp length-set at (ap length (c .before .before .before .put-split2 .ensures)))
 
 add-j : tie.Need-add-j Inv-loop μ-loop
-add-j c = omega arith
+add-j c = omega (arith, c .before .before .before .before .before .before .before .before .before .before .before .before .before .before .before .loop-test .taken, c .before .before .before .before .before .before .before .before .before .before .before .before .before .before .before .before .before .before .before .fits)
 
 loop-less : tie.Need-loop-less Inv-loop μ-loop
 loop-less c = omega arith
 
 loop-again : tie.Need-loop-again Inv-loop μ-loop
 loop-again c =
-    let head = c .before .before .before .before .before .before .before .before in
-    let start = c .before .before .before .before .before .before .before .before .before .before .before in
-    let l = c .before .before .before .before .before .before .before .loop-test .taken in (
-      omega (arith, l),
-      split-step _ (head .loop .inv .1) (omega (arith, l, start .pre .1)) (omega (arith, l, start .pre .2)) (c .before .before .put-split .ensures)
-          (factor-at _ _ (c .before .before .before .get-phase-factor .ensures) (c .before .before .before .before .before .before .index-at .ensures) (c .before .before .before .before .before .index-at2 .ensures) (ranged-at (start .pre .3) _ (below (c .before .before .before .before .before .before .before)))),
+    let head = c .before .before .before .before .before .before .before .before .before .before .before .before .before .before .before .before in
+    let start = head .before .before .before in
+    let t = c .before .before .before .before .before .before .before .before .before .before .before .before .before .before .before in
+    let k = inside t in
+    let r = ranged-at (start .pre .5) _ (below t) in
+    let z = c .before .before .before .before .before .before .before .before .before .before .before .before .get-phase-factors .ensures in
+    let n = c .before .before .before .before .before .before .before .before .before .before .before .before .before .before .index-at .ensures in
+    let m = c .before .before .before .before .before .before .before .before .before .before .before .before .before .index-at2 .ensures in
+    let a = start .args in
+    let e : a .i * a .ns + (head .loop .j + 1) ≡ a .i * a .ns + head .loop .j + 1 = omega arith in (
+      omega (arith, t .loop-test .taken),
+      rw e
+          (three-step _ _ _ (head .loop .inv .1) (omega arith) (omega (arith, k, start .pre .1)) (start .pre .2) (start .pre .3) (start .pre .4) (c .before .before .before .before .before .before .before .before .before .before .put-split .ensures) (c .before .before .before .before .before .before .put-split2 .ensures) (c .before .before .put-split3 .ensures)
+          (factor-at _ _ (z .0) n m r ∙ row-entry _ _ _ _ _ (a .i) (head .loop .j) (t .loop-test .taken))
+          (factor-at _ _ (z .1) n m r ∙ row-entry _ _ _ _ _ (a .i) (head .loop .j) (t .loop-test .taken))
+          (factor-at _ _ (z .2) n m r ∙ row-entry _ _ _ _ _ (a .i) (head .loop .j) (t .loop-test .taken))),
     )
 
 same-length : tie.Need-same-length Inv-loop μ-loop
@@ -90,8 +118,12 @@ phase-factor-row-spec =
     index-at-requires
     add-index-at
     index-at-requires-2
-    get-phase-factor-requires
+    get-phase-factors-requires
+    mul-k
+    add-k
     put-split-requires
+    put-split-requires-2
+    put-split-requires-3
     add-j
     loop-less
     loop-again

@@ -1,40 +1,33 @@
--- The phase factors of one leg: after i turns those of i atoms, row behind row.
+-- The phase factors of the three legs: after i turns those of i atoms, row behind row.
 use mathlib.Core.Path.{_≡_, refl}
-use Prim.Native.Nat.{_*_, _-_, _≤_}
+use Prim.Native.Nat.{_+_, _*_, _-_, _≤_}
 use native.Mathlib.Nat.{zero-mul}
 use Rattle.phonon.specs.RealToReciprocal.{phaseFactorEntry}
-use Rattle.planes.specs.Split.{WroteSplit}
-use Rattle.planes.proofs.SplitLaws.{split-none}
-use Rattle.planes.proofs.RegionLaws.{split-join}
 use Rattle.planes.proofs.Products.{row-le, row-next}
-use Rattle.real_to_reciprocal.proofs.PhaseLaws.{row-entry}
+use Rattle.real_to_reciprocal.specs.Three.{WroteThree}
+use Rattle.real_to_reciprocal.proofs.ThreeLaws.{three-none, three-join}
 use native.Mathlib.Omega.{arith}
 use Rattle.real_to_reciprocal.proofs.phases.phase_factors.Statement.{statement}
 use Rattle.real_to_reciprocal.proofs.phases.phase_factors.Tie as tie
 
 abbrev Inv-loop : tie.InvT-loop
-Inv-loop w₀ off q vectors multiplicity np ns d i₀ w i = (i ≤ np) × WroteSplit w₀ w off d (i * ns) (phaseFactorEntry np ns vectors multiplicity q)
+Inv-loop w₀ f0 f1 f2 q0 q1 q2 vectors multiplicity np ns d i₀ w i =
+    (i ≤ np)
+    × WroteThree w₀ w f0 f1 f2 d 0 (i * ns) (phaseFactorEntry np ns vectors multiplicity q0) (phaseFactorEntry np ns vectors multiplicity q1) (phaseFactorEntry np ns vectors multiplicity q2)
 
 abbrev μ-loop : tie.MeasureT-loop
-μ-loop w₀ off q vectors multiplicity np ns d i₀ w i = np - i
+μ-loop w₀ f0 f1 f2 q0 q1 q2 vectors multiplicity np ns d i₀ w i = np - i
 
 mul-d : tie.Need-mul-d Inv-loop μ-loop
 mul-d c = omega arith
 
 loop-holds : tie.Need-loop-holds Inv-loop μ-loop
-loop-holds c = (omega arith, rw (zero-mul (c .before .before .args .ns)) (split-none _ _ _ _))
-
-mul-phase-factor-row : tie.Need-mul-phase-factor-row Inv-loop μ-loop
-mul-phase-factor-row c = omega (arith, row-le (c .before .before .before .before .before .args .ns) (c .before .loop-test .taken))
-
-add-phase-factor-row : tie.Need-add-phase-factor-row Inv-loop μ-loop
-add-phase-factor-row c = omega (arith, row-le (c .before .before .before .before .before .args .ns) (c .before .loop-test .taken))
+loop-holds c = (omega arith, rw (zero-mul (c .before .before .args .ns)) (three-none _ _ _ _ _ _ _ _ _))
 
 phase-factor-row-requires : tie.Need-phase-factor-row-requires Inv-loop μ-loop
 phase-factor-row-requires c κs =
     let start = c .before .before .before .before .before in
-    let r = row-le (start .args .ns) (c .before .loop-test .taken) in
-    (c .before .loop-test .taken, omega arith, omega (arith, c .before .before .loop .inv .1 .size), start .pre .1)
+    (c .before .loop-test .taken, omega arith, start .pre .0, start .pre .1, omega (arith, c .before .before .loop .inv .1 .size, start .pre .2), start .pre .3)
 
 add-i : tie.Need-add-i Inv-loop μ-loop
 add-i c = omega arith
@@ -45,11 +38,9 @@ loop-less c = omega arith
 loop-again : tie.Need-loop-again Inv-loop μ-loop
 loop-again c =
     let start = c .before .before .before .before .before .before .before .before in
-    let head = c .before .before .before .before .before in
-    let r = row-le (start .args .ns) (c .before .before .before .before .loop-test .taken) in (
+    let head = c .before .before .before .before .before in (
       omega (arith, c .before .before .before .before .loop-test .taken),
-      rw (← row-next (head .loop .i) (start .args .ns))
-          (split-join (head .loop .inv .1) (c .before .before .phase-factor-row .ensures) refl (omega (arith, r)) (λ j h. row-entry _ _ _ _ _ (head .loop .i) j h)),
+      rw (← row-next (head .loop .i) (start .args .ns)) (three-join (head .loop .inv .1) (c .before .before .phase-factor-row .ensures) (omega arith)),
     )
 
 same-length : tie.Need-same-length Inv-loop μ-loop
@@ -68,8 +59,6 @@ phase-factors-spec =
     μ-loop
     mul-d
     loop-holds
-    mul-phase-factor-row
-    add-phase-factor-row
     phase-factor-row-requires
     add-i
     loop-less
