@@ -7,6 +7,8 @@ pub mod Range
 pub mod Reducible
 pub mod Bounds
 pub mod Floor
+pub mod Shift
+pub mod Quarters
 pub mod Signs
 pub mod SeriesBounds
 pub mod Remainder

@@ -172,29 +172,33 @@ fn both_series(z: f64) -> [f64; 2]
     [s, c]
 }
 
+// 1.5 * 2 ^ 52. From 2 ^ 52 to 2 ^ 53 the floats are the whole numbers.
+const SHIFT: f64 = 6755399441055744.0;
+
 // The greatest whole number not above y, as a float, and that number mod 4.
 struct Floored {
     whole: f64,
     quadrant: u64,
 }
 
+// Added to SHIFT, y is rounded to one of the two whole numbers around it; where that is the upper one, the floor is one less.
+// SHIFT is a multiple of 4, so the last digits of the sum are the number's mod 4.
 fn floor_parts(y: f64) -> Floored
     requires { ⌜ Within 1048577 y ⌝ }
     ensures { λ r. ⌜ (r .whole ≡ float (Trig.floor y)) × (r .quadrant ≡ Trig.quadrant (Trig.floor y)) ⌝ }
 {
-    if y >= 0.0 {
-        let k = std::num::truncating_f64_to_u64(y);
+    let shifted = y + SHIFT;
+    let near = shifted - SHIFT;
+    let digits = f64::to_bits(shifted) % 4;
+    if y < near {
         return Floored {
-            whole: (k as u32) as f64,
-            quadrant: k % 4,
+            whole: near - 1.0,
+            quadrant: (digits + 3) % 4,
         };
     }
-    let m = -y;
-    let t = std::num::truncating_f64_to_u64(m);
-    let k = if ((t as u32) as f64) < m { t + 1 } else { t };
     Floored {
-        whole: -((k as u32) as f64),
-        quadrant: (4 - k % 4) % 4,
+        whole: near,
+        quadrant: digits,
     }
 }
 
@@ -224,15 +228,40 @@ fn turned(q: u64, r: f64, p: [f64; 2]) -> SinCos
     }
 }
 
+// The domain of the sine and the cosine; no NaN is in it.
+fn in_domain(x: f64) -> bool
+    ensures { λ r. ⌜ r ≡ Trig.inDomain x ⌝ }
+{
+    (x >= -1048576.0) & (x <= 1048576.0)
+}
+
+// What is left of x after the nearest number of quarter turns, and that number mod 4.
+struct Nearest {
+    rest: f64,
+    quadrant: u64,
+}
+
+fn quartered(x: f64) -> Nearest
+    requires { ⌜ Trig.inDomain x ≡ true ⌝ }
+    ensures { λ r. ⌜ (r .rest ≡ Trig.reduced x (float (Trig.floor (Trig.quarters x))))
+        × (r .quadrant ≡ Trig.quadrant (Trig.floor (Trig.quarters x)))
+        × (r .quadrant < 4) ⌝ }
+{
+    let f = floor_parts(x * TWO_OVER_PI + 0.5);
+    let k = f.whole;
+    Nearest {
+        rest: ((x - k * HALF_PI_HIGH) - k * HALF_PI_MIDDLE) - k * HALF_PI_LOW,
+        quadrant: f.quadrant,
+    }
+}
+
 // The sine and the cosine of x. Beyond 1048576 in size, and of a NaN, both are a NaN.
 pub fn sin_cos(x: f64) -> SinCos
     ensures { λ r. ⌜ r ≡ Trig.sinCos x ⌝ }
 {
-    if (x >= -1048576.0) & (x <= 1048576.0) {
-        let f = floor_parts(x * TWO_OVER_PI + 0.5);
-        let k = f.whole;
-        let r = ((x - k * HALF_PI_HIGH) - k * HALF_PI_MIDDLE) - k * HALF_PI_LOW;
-        return turned(f.quadrant, r, both_series(r * r));
+    if in_domain(x) {
+        let a = quartered(x);
+        return turned(a.quadrant, a.rest, both_series(a.rest * a.rest));
     }
     SinCos {
         sin: 0.0 / 0.0,
@@ -273,32 +302,6 @@ fn three_series(x: f64, y: f64, z: f64, sines: &[f64; 9], cosines: &[f64; 9]) ->
         i += 1;
     }
     [s, c, t, d, u, e]
-}
-
-fn in_domain(x: f64) -> bool
-    ensures { λ r. ⌜ r ≡ Trig.inDomain x ⌝ }
-{
-    (x >= -1048576.0) & (x <= 1048576.0)
-}
-
-// What is left of x after the nearest number of quarter turns, and that number mod 4.
-struct Nearest {
-    rest: f64,
-    quadrant: u64,
-}
-
-fn quartered(x: f64) -> Nearest
-    requires { ⌜ Trig.inDomain x ≡ true ⌝ }
-    ensures { λ r. ⌜ (r .rest ≡ Trig.reduced x (float (Trig.floor (Trig.quarters x))))
-        × (r .quadrant ≡ Trig.quadrant (Trig.floor (Trig.quarters x)))
-        × (r .quadrant < 4) ⌝ }
-{
-    let f = floor_parts(x * TWO_OVER_PI + 0.5);
-    let k = f.whole;
-    Nearest {
-        rest: ((x - k * HALF_PI_HIGH) - k * HALF_PI_MIDDLE) - k * HALF_PI_LOW,
-        quadrant: f.quadrant,
-    }
 }
 
 // The sines and the cosines of three numbers.

@@ -1,15 +1,14 @@
 -- Where all three numbers are in the domain, each sine and cosine comes from its parts; elsewhere each is worked alone.
-use mathlib.Core.Path.{_≡_, refl, sym, ap, _∙_}
-use mathlib.Core.List.{List, [], _∷_, foldl}
+use mathlib.Core.Path.{_≡_, refl, sym, _∙_}
+use mathlib.Core.List.{List, [], _∷_}
 use mathlib.Core.Bool.{Bool, true, _&&_}
-use Prim.Native.Nat.{ℕ}
 use borrow.Author.Needs.{needs}
 use lib.Ieee.{Float, ofBits, ofInt}
-use Rattle.phonon.specs.declared.SinCos.{SinCos}
-use Rattle.phonon.specs.Number.{_⊗_, f1, at, float}
-use Rattle.phonon.specs.Trig.{sinCos, inDomain, byDomain, atFloor, near, floor, quarters, quadrant, reduced, turned}
+use Rattle.phonon.specs.Number.{at}
+use Rattle.phonon.specs.Trig.{inDomain}
 use Rattle.phonon.proofs.Accepted.{and-both}
-use Rattle.funcs.proofs.Series.{alternating, sineDivisors, cosineDivisors, sine-fold, cosine-fold}
+use Rattle.funcs.proofs.Series.{sine-fold, cosine-fold}
+use Rattle.funcs.proofs.Quarters.{inside}
 use Rattle.funcs.proofs.sin_cos_three.Statement.{statement}
 use Rattle.funcs.proofs.sin_cos_three.Tie as tie
 
@@ -20,12 +19,9 @@ all-three x y z p q r e =
     let u = and-both (inDomain x) (inDomain y) (t .0) in
     (u .0, u .1, t .1)
 
--- the definition in the calls' results
-joined : (x r s c : Float) (q : ℕ) (v : SinCos) → inDomain x ≡ true → r ≡ reduced x (float (floor (quarters x))) → q ≡ quadrant (floor (quarters x))
-    → s ≡ foldl (alternating (r ⊗ r)) f1 sineDivisors → c ≡ foldl (alternating (r ⊗ r)) f1 cosineDivisors → v ≡ turned q (r ⊗ s) c → v ≡ sinCos x
-unfolding sinCos byDomain atFloor near
-joined x r s c q v h hr hq hs hc hv =
-    hv ∙ rw (hs ∙ sym (sine-fold (r ⊗ r)), hc ∙ sym (cosine-fold (r ⊗ r)), hq, hr) refl ∙ sym (ap (λ (t : Bool). byDomain t x) h)
+-- the six series, one by one
+six : {l : List Float} {a b c d e f : Float} → l ≡ a ∷ b ∷ c ∷ d ∷ e ∷ f ∷ [] → (at l 0 ≡ a) × (at l 1 ≡ b) × (at l 2 ≡ c) × (at l 3 ≡ d) × (at l 4 ≡ e) × (at l 5 ≡ f)
+six h = rw h (refl, refl, refl, refl, refl, refl)
 
 in-domain-requires : tie.Need-in-domain-requires
 in-domain-requires c κs = search needs
@@ -78,16 +74,16 @@ turned-requires-3 c κs = search needs
 returns : tie.Need-returns
 unfolding ofBits ofInt
 returns c =
-    let p = c .before .before .before .three-series .ensures in
+    let p = six (c .before .before .before .three-series .ensures) in
     let s = c .before .before .before .before .before .before .before .before .before in
     let t = s .before .before .before in
     let h = all-three _ _ _ (t .before .before .before .in-domain .ensures) (t .before .before .in-domain2 .ensures) (t .before .in-domain3 .ensures) (t .if1 .taken) in
     let a = s .before .before .quartered .ensures in
     let b = s .before .quartered2 .ensures in
     let d = s .quartered3 .ensures in (
-      joined _ _ _ _ _ _ (h .0) (a .0) (a .1) (ap (λ l. at l 0) p) (ap (λ l. at l 1) p) (c .before .before .turned .ensures),
-      joined _ _ _ _ _ _ (h .1) (b .0) (b .1) (ap (λ l. at l 2) p) (ap (λ l. at l 3) p) (c .before .turned2 .ensures),
-      joined _ _ _ _ _ _ (h .2) (d .0) (d .1) (ap (λ l. at l 4) p) (ap (λ l. at l 5) p) (c .turned3 .ensures),
+      inside _ _ _ _ _ _ (h .0) (a .0) (a .1) (p .0 ∙ sym (sine-fold _)) (p .1 ∙ sym (cosine-fold _)) (c .before .before .turned .ensures),
+      inside _ _ _ _ _ _ (h .1) (b .0) (b .1) (p .2 ∙ sym (sine-fold _)) (p .3 ∙ sym (cosine-fold _)) (c .before .turned2 .ensures),
+      inside _ _ _ _ _ _ (h .2) (d .0) (d .1) (p .4 ∙ sym (sine-fold _)) (p .5 ∙ sym (cosine-fold _)) (c .turned3 .ensures),
     )
 
 sin-cos-requires : tie.Need-sin-cos-requires
