@@ -42,19 +42,7 @@ fn all_flagged(flags: &[u8], nb: usize, b: usize, k: usize) -> bool
     true
 }
 
-// Writes s to slot `place` unless it is flagged.
-fn fill_slot(out: &mut [f64], flags: &[u8], place: usize, s: f64)
-    requires { ⌜ (place < length (now out)) × (place < length (now flags)) ⌝ }
-    ensures { λ _. ⌜ Visited (now (out .entry)) (now (out .exit)) (flagged (now (flags .entry))) (λ n. s)
-        (length (now (out .entry))) (λ n. n ≡ place) ⌝ }
-{
-    if is_flagged(flags, place) {
-        return;
-    }
-    out[place] = s;
-}
-
-// The slots (b, j, k) of all j, from their amplitudes at ao.
+// The slots (b, j, k) of all j, from their amplitudes at ao. The strength of a flagged slot, a division, is not worked.
 fn fill_column(
     out: &mut [f64],
     flags: &[u8],
@@ -78,8 +66,10 @@ fn fill_column(
         (length (now (out .entry))) (InColumn nb b k nb) ⌝ }
 {
     for j in 0..nb {
-        let s = strength_of(cutoff, get_split(w, ao, nb, j), x, freqs1[j], z);
-        fill_slot(out, flags, (b * nb + j) * nb + k, s);
+        let place = (b * nb + j) * nb + k;
+        if !is_flagged(flags, place) {
+            out[place] = strength_of(cutoff, get_split(w, ao, nb, j), x, freqs1[j], z);
+        }
     }
 }
 
