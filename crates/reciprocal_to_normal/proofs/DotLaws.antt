@@ -54,6 +54,11 @@ pub dot-three : (a b : ℕ → Complex) → fold 3 czero (term a b) ≡ dot 3 a 
 unfolding dot lane fold cadd
 dot-three a b = rw (zero-zero, zero-zero)
 
+-- six numbers: partial sums of one term each, and a remainder of two
+pub dot-six : (a b : ℕ → Complex) → term a b 5 (term a b 4 (cadd (cadd (term a b 0 czero) (term a b 1 czero)) (cadd (term a b 2 czero) (term a b 3 czero)))) ≡ dot 6 a b
+unfolding dot lane fold
+dot-six a b = refl
+
 four-lt : (n c t : ℕ) → c < n / 4 → t < 4 → 4 * c + t < n
 four-lt n c t p q = let e = div-add-mod n 4 in omega arith
 

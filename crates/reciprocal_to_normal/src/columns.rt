@@ -8,7 +8,7 @@ ghost use mathlib.Core.Path.{_≡_};
 ghost use Prim.Native.Nat.{_+_, _*_, _<_, _≤_};
 ghost use lib.ListN.{length};
 ghost use Rattle.phonon.specs.Number.{at};
-ghost use Rattle.phonon.specs.Common.{cadd, cmul};
+ghost use Rattle.phonon.specs.Common.{czero, cadd, cmul};
 ghost use Rattle.phonon.specs.ReciprocalToNormal.{lane, dot};
 ghost use Rattle.planes.specs.Region.{Wrote};
 ghost use Rattle.planes.specs.Split.{split, WroteSplit, Cols, column, strided};
@@ -143,5 +143,44 @@ pub fn dot_three_columns(
         let v = get_split(w, vo, vd, k * vs);
         add_columns(&mut t, w, mo + k * 3, d, v, 3);
     }
+    t
+}
+
+// Sums of six columns, begun with one row: to 0.0 is added v times the numbers from `from` on of the matrix.
+fn begin_columns(w: &[f64], from: usize, d: usize, v: Complex) -> [f64; 12]
+    requires { ⌜ from + d + 6 ≤ length (now w) ⌝ }
+    ensures { λ r. ⌜ Cols r 6 (λ c. cadd czero (cmul (split (now (w .entry)) from d c) v)) ⌝ }
+{
+    let mut t: [f64; 12] = [0.0; 12];
+    add_columns(&mut t, w, from, d, v, 6);
+    t
+}
+
+// Two sums of six columns added: 12 numbers, the real and the imaginary parts alike.
+fn join_columns(a: &[f64; 12], b: &[f64; 12]) -> [f64; 12]
+    ensures { λ r. ⌜ Cols r 6 (λ c. cadd (split (now (a .entry)) 0 6 c) (split (now (b .entry)) 0 6 c)) ⌝ }
+{
+    let mut t: [f64; 12] = [0.0; 12];
+    for c in 0..12 {
+        t[c] = a[c] + b[c];
+    }
+    t
+}
+
+// The dot products of six columns of six numbers: four partial sums of one row each, joined (0 + 1) + (2 + 3), then rows 4
+// and 5. Since the count of rows is known, the compiler lays its loops out straight.
+pub fn dot_six_columns(w: &[f64], mo: usize, d: usize, vo: usize, vd: usize, vs: usize) -> [f64; 12]
+    requires { ⌜ (mo + d + 36 ≤ length (now w)) × (vo + vd + 6 * vs < length (now w) + vs) ⌝ }
+    ensures { λ r. ⌜ Cols r 6 (λ c. dot 6 (column (now (w .entry)) mo d 6 c) (strided (now (w .entry)) vo vd vs)) ⌝ }
+{
+    let s0 = begin_columns(w, mo, d, get_split(w, vo, vd, 0));
+    let s1 = begin_columns(w, mo + 6, d, get_split(w, vo, vd, vs));
+    let x = join_columns(&s0, &s1);
+    let s2 = begin_columns(w, mo + 12, d, get_split(w, vo, vd, 2 * vs));
+    let s3 = begin_columns(w, mo + 18, d, get_split(w, vo, vd, 3 * vs));
+    let y = join_columns(&s2, &s3);
+    let mut t = join_columns(&x, &y);
+    add_columns(&mut t, w, mo + 24, d, get_split(w, vo, vd, 4 * vs), 6);
+    add_columns(&mut t, w, mo + 30, d, get_split(w, vo, vd, 5 * vs), 6);
     t
 }

@@ -1,5 +1,6 @@
 // The contraction of a matrix of n rows and columns with a vector: number c is the dot product of column c and the vector.
 use crate::columns::dot_columns;
+use crate::columns::dot_six_columns;
 use crate::columns::dot_three_columns;
 use crate::columns::put_run;
 ghost use mathlib.Core.Path.{_≡_};
@@ -70,6 +71,16 @@ fn contract_short_row(
     put_columns(w, ro, 3, &t, 3);
 }
 
+// Two atoms: all six columns at once. Quicker than contract_long_row, since the count of rows is known.
+fn contract_six_row(w: &mut [f64], ro: usize, mo: usize, d: usize, vo: usize, vd: usize, vs: usize)
+    requires { ⌜ (ro + 12 ≤ length (now w)) × (mo + d + 36 ≤ ro) × (vo + vd + 6 * vs < ro + vs) ⌝ }
+    ensures { λ _. ⌜ WroteSplit (now (w .entry)) (now (w .exit)) ro 6 6
+        (λ c. dot 6 (column (now (w .entry)) mo d 6 c) (strided (now (w .entry)) vo vd vs)) ⌝ }
+{
+    let t = dot_six_columns(w, mo, d, vo, vd, vs);
+    put_columns(w, ro, 6, &t, 6);
+}
+
 // At ro, the contraction of the matrix at mo, of 3 * np columns, with the vector at vo, whose numbers are vs places apart.
 pub fn contract_row(
     w: &mut [f64],
@@ -91,6 +102,10 @@ pub fn contract_row(
 {
     if np == 1 {
         contract_short_row(w, ro, mo, d, vo, vd, vs);
+        return;
+    }
+    if np == 2 {
+        contract_six_row(w, ro, mo, d, vo, vd, vs);
         return;
     }
     contract_long_row(w, ro, mo, d, vo, vd, vs, 3 * np);
