@@ -5,6 +5,7 @@ pub mod PhaseLaws
 pub mod ThreeLaws
 pub mod CopyLaws
 pub mod PairLaws
+pub mod HeldLaws
 pub mod ElementLaws
 pub mod ShapeLaws
 pub mod StoredLaws
