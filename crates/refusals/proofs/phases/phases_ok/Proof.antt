@@ -1,4 +1,4 @@
--- Each call told one of the tests, at the q of one leg.
+-- The calls told the tests of the legs and of their orders, at the q of the three points.
 use native.Mathlib.Omega.{arith}
 use Rattle.refusals.proofs.PhaseLaws.{phases-told}
 use borrow.Author.Needs.{needs}
@@ -26,21 +26,15 @@ compute-q-vec-requires-3 c κs = rw (c .index-at3 .ensures) (c .before .before .
 mul-entries : tie.Need-mul-entries
 mul-entries c = search needs
 
-leg-phases-ok-requires : tie.Need-leg-phases-ok-requires
-leg-phases-ok-requires c κs = search needs
-
-leg-phases-ok-requires-2 : tie.Need-leg-phases-ok-requires-2
-leg-phases-ok-requires-2 c κs = search needs
-
-leg-phases-ok-requires-3 : tie.Need-leg-phases-ok-requires-3
-leg-phases-ok-requires-3 c κs = search needs
+legs-phases-ok-requires : tie.Need-legs-phases-ok-requires
+legs-phases-ok-requires c κs = search needs
 
 orders-ok-requires : tie.Need-orders-ok-requires
 orders-ok-requires c κs = search needs
 
 returns : tie.Need-returns
 returns c =
-    let b = c .before .before .before .before .before .before .before in
+    let b = c .before .before .before .before .before in
     let a = b .before .before .before .before .before .before .before .args in
     phases-told _ _ _ _ _ _ (record { mesh = a .mesh; matrix = a .matrix; addresses = a .addresses .now }) (a .points .now)
     (b .before .before .before .before .before .index-at .ensures)
@@ -49,9 +43,7 @@ returns c =
     (b .before .before .before .before .compute-q-vec .ensures)
     (b .before .before .compute-q-vec2 .ensures)
     (b .compute-q-vec3 .ensures)
-    (c .before .before .before .before .before .leg-phases-ok .ensures)
-    (c .before .before .before .leg-phases-ok2 .ensures)
-    (c .before .leg-phases-ok3 .ensures)
+    (c .before .legs-phases-ok .ensures)
     (c .orders-ok .ensures)
 
 pub phases-ok-spec : {M : Type 1} → statement M
@@ -65,8 +57,6 @@ phases-ok-spec =
     index-at-requires-3
     compute-q-vec-requires-3
     mul-entries
-    leg-phases-ok-requires
-    leg-phases-ok-requires-2
-    leg-phases-ok-requires-3
+    legs-phases-ok-requires
     orders-ok-requires
     returns)
