@@ -1,26 +1,27 @@
 -- Laws of bands, slots and sums: what the loops work out from the bands that they hold is the definition's total.
-use Prim.Native.Nat.{ℕ, _+_, _*_, _<_, _≤_}
+use Prim.Native.Nat.{ℕ, zero, suc, _+_, _*_, _<_, _≤_}
 use native.Mathlib.Nat.{mul-le-mul-right, mul-assoc, one-mul, eq-or-lt-of-le}
 use native.Mathlib.Omega.{arith}
 use mathlib.Core.Path.{_≡_, refl, sym, ap, _∙_}
 use mathlib.Core.Bool.{Bool, true, false, not, _&&_, cond, Bool·not-not}
-use mathlib.Core.List.{List}
+use mathlib.Core.List.{List, [], _∷_, map}
 use mathlib.Core.Logic.{_⊎_, ⊎-elim}
 use lib.Dec.{eqb}
 use lib.Ieee.{Float, nan, lt}
 use lib.ListN.{getD, length, set, length-set}
-use lib.Seq.{getD-set-same, getD-set-other, getD-take, getD-drop, ext-getD}
+use lib.Seq.{getD-set-same, getD-set-other, ext-getD}
 use Rattle.phonon.specs.declared.Band.{Band}
 use Rattle.phonon.specs.declared.Weights.{Weights}
 use Rattle.phonon.specs.declared.Weights.the-variants.{PerSlot, AtFrequencyPoint}
-use Rattle.phonon.specs.Number.{_⊕_, f0, float, at, fold, table}
+use Rattle.phonon.specs.Number.{_⊕_, f0, float, index, at, int, fold, table}
 use Rattle.phonon.specs.Funcs.{boseEinstein}
 use Rattle.phonon.specs.Sets.{slot, part}
 use Rattle.phonon.specs.Limits.{entriesOf}
 use Rattle.phonon.specs.ImagSelfEnergy.{Sum, block, placeOf, second1, third2, counted, contribution, slotTerm, total, totals}
-use Rattle.phonon.proofs.Laws.{fold-ext, fold-step, table-ext, table-at, table-length}
+use Rattle.phonon.proofs.Laws.{fold-ext, fold-step, table-ext, table-at, table-length, part-at}
 use Rattle.funcs.specs.Occupation.{mark, marked}
-use Rattle.imag_self_energy.specs.Bands.{addSlot, slotStep, columnSum, bandTotal, Sized}
+use Rattle.imag_self_energy.specs.declared.Shared.{Shared}
+use Rattle.imag_self_energy.specs.Bands.{bandAt, bandOf, legBands, addSlot, slotStep, columnSum, bandTotal, Sized}
 
 -- ---- blocks
 
@@ -88,13 +89,9 @@ filled-table {l} {n} {f} e w =
 
 -- ---- the bands of a leg
 
--- set_occupations, for one band
-unfoldable pub bandOf : Float → Float → Float → Band
-bandOf temperature cutoff f = record { frequency = f; occupation = marked temperature cutoff f }
-
--- the first n of an array are the bands of frequencies f 0, .., f (n - 1)
-abbrev pub Held : Float → Float → (ℕ → Float) → ℕ → List Band → Type 0
-Held temperature cutoff f n bands = Filled bands n (λ i. bandOf temperature cutoff (f i))
+-- the first n of an array are the first n bands of a leg
+abbrev Held : Shared → List Float → ℕ → List Band → Type 0
+Held h leg n bands = Filled bands n (λ i. bandOf h (at leg i))
 
 pub above : (t c f : Float) {n : Float} → lt c f ≡ true → n ≡ boseEinstein f t → n ≡ marked t c f
 unfolding marked
@@ -104,17 +101,47 @@ pub below : (t c f : Float) → lt c f ≡ false → mark ≡ marked t c f
 unfolding marked
 below t c f p = rw p refl
 
-pub band-made : (t c f n : Float) → n ≡ marked t c f → record { frequency = f; occupation = n } ≡ bandOf t c f
+band-made : (h : Shared) (f n : Float) → n ≡ marked (h .temperature) (h .cutoff) f → record { frequency = f; occupation = n } ≡ bandOf h f
 unfolding bandOf
-band-made t c f n e = rw e refl
+band-made h f n e = rw e refl
 
--- the bands of grid point g's stretch are those of the slice, from g * n on
-pub held-part : (t c : Float) {n : ℕ} {l : List Band} (g : ℕ) (fr leg : List Float) → leg ≡ part n g fr → Held t c (at leg) n l → Held t c (λ i. at fr (g * n + i)) n l
-held-part t c {n} g fr leg e w =
+map-at : {A B : Type 0} (f : A → B) (l : List A) (i : ℕ) (d : B) (e : A) → i < length l → getD (map f l) i d ≡ f (getD l i e)
+map-at f [] i d e p = absurd (omega arith)
+map-at f (x ∷ l) zero d e p = refl
+map-at f (x ∷ l) (suc i) d e p = map-at f l i d e (omega arith)
+
+leg-held : (h : Shared) {n : ℕ} (leg : List Float) → length leg ≡ n → Held h leg n (legBands h leg)
+unfolding legBands
+leg-held h leg e = record { filled = λ i p d. map-at (bandOf h) leg i d nan (omega arith) }
+
+-- band i of a leg that is grid point g's stretch of the slice
+leg-band : (h : Shared) {n i : ℕ} {leg : List Float} (g : ℕ) (fr : List Float) → leg ≡ part n g fr → length leg ≡ n → i < n
+    → bandAt (legBands h leg) i ≡ bandOf h (at fr (g * n + i))
+leg-band h {n} {i} {leg} g fr e l p =
+    let a : at leg i ≡ at fr (g * n + i) = rw e (part-at fr (g * n) n i nan p) in
+    leg-held h leg l .filled i p _ ∙ ap (bandOf h) a
+
+-- the first n bands of both later legs are held, in arrays of m
+pub record BothHeld (h : Shared) (leg1 leg2 : List Float) (m n : ℕ) (seconds thirds : List Band) : Type 0 where
+  pub room2 : length seconds ≡ m
+  pub room3 : length thirds ≡ m
+  pub second : Held h leg1 n seconds
+  pub third : Held h leg2 n thirds
+
+pub both-none : (h : Shared) (leg1 leg2 : List Float) {m : ℕ} (seconds thirds : List Band) → length seconds ≡ m → length thirds ≡ m → BothHeld h leg1 leg2 m 0 seconds thirds
+both-none h leg1 leg2 seconds thirds p q = record { room2 = p; room3 = q; second = filled-none _ _; third = filled-none _ _ }
+
+pub both-step : {h : Shared} {leg1 leg2 : List Float} {m n : ℕ} {seconds thirds : List Band} {x y : Float} → BothHeld h leg1 leg2 m n seconds thirds → n < m
+    → x ≡ marked (h .temperature) (h .cutoff) (at leg1 n) → y ≡ marked (h .temperature) (h .cutoff) (at leg2 n)
+    → BothHeld h leg1 leg2 m (n + 1) (set seconds n (record { frequency = at leg1 n; occupation = x })) (set thirds n (record { frequency = at leg2 n; occupation = y }))
+both-step {h} w l e f =
+    let p = w .room2 in
+    let q = w .room3 in
     record {
-      filled = λ i p d.
-          let a : at leg i ≡ at fr (g * n + i) = rw e (rw (getD-take, getD-drop) refl) in
-          w .filled i p d ∙ ap (bandOf t c) a;
+      room2 = simp length-set p;
+      room3 = simp length-set q;
+      second = filled-step _ (w .second) (omega arith) (band-made h _ _ e);
+      third = filled-step _ (w .third) (omega arith) (band-made h _ _ f);
     }
 
 -- ---- loops that sum
@@ -129,9 +156,13 @@ at-end step z i n e h = h ∙ ap (λ (m : ℕ). fold m z step) e
 
 -- ---- one slot
 
+-- what all slots share, of a sum's definition
+abbrev shared : Sum → Float → Shared
+shared s t = record { temperature = t; cutoff = s .cutoff; weight = float (s .weight) }
+
 -- of the bands of frequencies f and h: where the slot counts, their occupations are worked out
 slot-is : (s : Sum) (t : Float) (g : ℕ) (f h x y v u : Float)
-    → addSlot (record { temperature = t; cutoff = s .cutoff; weight = float (s .weight) }) g (bandOf t (s .cutoff) f) (bandOf t (s .cutoff) h) x y v u
+    → addSlot (shared s t) g (bandOf (shared s t) f) (bandOf (shared s t) h) x y v u
     ≡ cond (not (not (eqb g 0)) && lt (s .cutoff) f && lt (s .cutoff) h)
     (u ⊕ contribution t (float (s .weight)) (boseEinstein f t) (boseEinstein h t) x y v) u
 unfolding addSlot bandOf marked
@@ -147,21 +178,37 @@ slot-is s t g f h x y v u = rw Bool·not-not (by (eqb g 0) (lt (s .cutoff) f) (l
 
 -- ---- the total
 
-module _ (s : Sum) (t : Float) (v : List Float) {seconds thirds : List Band}
-    (p : Held t (s .cutoff) (second1 s) (s .bands) seconds)
-    (q : Held t (s .cutoff) (third2 s) (s .bands) thirds) where
-  total-is : (b : ℕ)
-      → bandTotal (record { temperature = t; cutoff = s .cutoff; weight = float (s .weight) }) (s .bands) (block (s .weights) b) b seconds thirds (s .flags) (s .first) (s .second) v
-      ≡ total s t v b
-  unfolding bandTotal columnSum slotStep total counted slotTerm
-  total-is b =
-      fold-ext (s .bands) f0 _ _
-      (λ k pk u. fold-ext (s .bands) u _ _
-      (λ j pj a. rw (p .filled j pj _, q .filled k pk _)
-      (slot-is s t (getD (s .flags) (placeOf s b j k) 0) (second1 s j) (third2 s k) (at (s .first) (placeOf s b j k)) (at (s .second) (placeOf s b j k)) (at v (slot (s .bands) b j k)) a)))
+-- arrays that hold the bands of both legs make the same totals as the bands
+pub both-totals : (h : Shared) (leg1 leg2 : List Float) {m n : ℕ} {seconds thirds : List Band} → BothHeld h leg1 leg2 m n seconds thirds → length leg1 ≡ n → length leg2 ≡ n
+    → (F : ℕ) (w : Weights) (g : List ℕ) (x y v : List Float)
+    → table F (λ b. bandTotal h n (block w b) b seconds thirds g x y v) ≡ table F (λ b. bandTotal h n (block w b) b (legBands h leg1) (legBands h leg2) g x y v)
+unfolding bandTotal columnSum slotStep
+both-totals h leg1 leg2 {m} {n} r p q F w g x y v =
+    table-ext F _ _
+    (λ b l. fold-ext n f0 _ _
+    (λ k pk u. fold-ext n u _ _
+    (λ j pj a. rw (r .second .filled j pj _, r .third .filled k pk _, leg-held h leg1 p .filled j pj _, leg-held h leg2 q .filled k pk _) refl)))
 
-  pub totals-are : (F : ℕ) (w : Float) → w ≡ float (s .weight)
-      → table F (λ b. bandTotal (record { temperature = t; cutoff = s .cutoff; weight = w }) (s .bands) (block (s .weights) b) b seconds thirds (s .flags) (s .first) (s .second) v)
-      ≡ totals F s t v
-  unfolding totals
-  totals-are F w e = rw e (table-ext F _ _ (λ b l. total-is b))
+-- the bands of the definition's frequencies make its totals
+total-is : (s : Sum) (t : Float) (v : List Float) (seconds thirds : List Band)
+    → ((j : ℕ) → j < s .bands → bandAt seconds j ≡ bandOf (shared s t) (second1 s j))
+    → ((k : ℕ) → k < s .bands → bandAt thirds k ≡ bandOf (shared s t) (third2 s k))
+    → (b : ℕ) → bandTotal (shared s t) (s .bands) (block (s .weights) b) b seconds thirds (s .flags) (s .first) (s .second) v ≡ total s t v b
+unfolding bandTotal columnSum slotStep total counted slotTerm
+total-is s t v seconds thirds p q b =
+    fold-ext (s .bands) f0 _ _
+    (λ k pk u. fold-ext (s .bands) u _ _
+    (λ j pj a. rw (p j pj, q k pk)
+    (slot-is s t (getD (s .flags) (placeOf s b j k) 0) (second1 s j) (third2 s k) (at (s .first) (placeOf s b j k)) (at (s .second) (placeOf s b j k)) (at v (slot (s .bands) b j k)) a)))
+
+-- the legs are stretches of these frequencies, and the weight is cast
+pub totals-are : (s : Sum) (t : Float) (v leg1 leg2 : List Float)
+    → leg1 ≡ part (s .bands) (index (int (s .points) 1)) (s .frequencies) → length leg1 ≡ s .bands
+    → leg2 ≡ part (s .bands) (index (int (s .points) 2)) (s .frequencies) → length leg2 ≡ s .bands
+    → (F : ℕ) (w : Float) → w ≡ float (s .weight)
+    → table F (λ b. bandTotal (record { temperature = t; cutoff = s .cutoff; weight = w }) (s .bands) (block (s .weights) b) b
+    (legBands (record { temperature = t; cutoff = s .cutoff; weight = w }) leg1) (legBands (record { temperature = t; cutoff = s .cutoff; weight = w }) leg2) (s .flags) (s .first) (s .second) v)
+    ≡ totals F s t v
+unfolding totals
+totals-are s t v leg1 leg2 e1 l1 e2 l2 F w e =
+    rw e (table-ext F _ _ (λ b l. total-is s t v _ _ (λ j p. leg-band (shared s t) _ _ e1 l1 p) (λ k p. leg-band (shared s t) _ _ e2 l2 p) b))

@@ -2,7 +2,7 @@
 use Prim.Native.Nat.{ℕ, _*_, _≤_}
 use mathlib.Core.Path.{_≡_}
 use mathlib.Core.Bool.{_&&_, cond}
-use mathlib.Core.List.{List}
+use mathlib.Core.List.{List, map}
 use lib.Dec.{eqb}
 use lib.Ieee.{Float, nan, lt}
 use lib.ListN.{getD, length}
@@ -12,15 +12,26 @@ use Rattle.phonon.specs.Number.{_⊕_, f0, at, fold}
 use Rattle.phonon.specs.Sets.{slot}
 use Rattle.phonon.specs.Limits.{entriesOf}
 use Rattle.phonon.specs.ImagSelfEnergy.{contribution}
+use Rattle.funcs.specs.Occupation.{marked}
 use Rattle.imag_self_energy.specs.declared.Shared.{Shared}
 
--- how many bands the arrays of the later legs hold
+-- how many bands the arrays of the later legs hold, and those of the bands that are summed with no lists
 abbrev pub mostBands : ℕ
 mostBands = 24
+
+abbrev pub plainBands : ℕ
+plainBands = 6
 
 -- entry i of an array of bands
 abbrev pub bandAt : List Band → ℕ → Band
 bandAt l i = getD l i (record { frequency = nan; occupation = nan })
+
+-- set_occupations: a band of frequency f, and the bands of a leg
+unfoldable pub bandOf : Shared → Float → Band
+bandOf h f = record { frequency = f; occupation = marked (h .temperature) (h .cutoff) f }
+
+unfoldable pub legBands : Shared → List Float → List Band
+legBands h leg = map (bandOf h) leg
 
 -- one slot added to a sum, from what it reads: its flag, its two later bands, its weights x and y, its strength v
 unfoldable pub addSlot : Shared → ℕ → Band → Band → Float → Float → Float → Float → Float

@@ -5,9 +5,8 @@ mod occupations;
 mod plain;
 
 use crate::check::check;
-use crate::listed::fill_lists;
-use crate::occupations::occupations;
-use crate::plain::fill_plain;
+use crate::listed::listed_totals;
+use crate::plain::plain_totals;
 use checks::verdict::Checked;
 use checks::verdict::answer_of;
 use common::float_of;
@@ -34,6 +33,16 @@ const MOST_PLACES: usize = MOST_BANDS * MOST_BANDS;
 const FEW_BANDS: usize = 12;
 
 const FEW_PLACES: usize = FEW_BANDS * FEW_BANDS;
+
+// The most bands that are summed with no lists. They have arrays of their own: to fill those of MOST_BANDS takes 6 % of
+// the time of totals alone with one atom.
+const PLAIN_BANDS: usize = 6;
+
+// What an array of bands holds before it is filled.
+const NO_BAND: Band = Band {
+    frequency: 0.0,
+    occupation: -1.0,
+};
 
 // What all slots of a triplet share: the weight as an f64.
 struct Shared {
@@ -87,37 +96,18 @@ pub fn write_totals(
     let g2 = index_of(triplet[2]);
     let leg1 = leg_frequencies(frequencies, g1, bands);
     let leg2 = leg_frequencies(frequencies, g2, bands);
-    let none = Band {
-        frequency: 0.0,
-        occupation: -1.0,
-    };
-    let mut seconds = [none; MOST_BANDS];
-    let mut thirds = [none; MOST_BANDS];
-    for j in 0..bands {
-        let f = leg1[j];
-        let g = leg2[j];
-        let o = occupations(temperature, cutoff, f, g);
-        seconds[j] = Band {
-            frequency: f,
-            occupation: o.one,
-        };
-        thirds[j] = Band {
-            frequency: g,
-            occupation: o.two,
-        };
-    }
     let h = Shared {
         temperature: temperature,
         cutoff: cutoff,
         weight: float_of(weight),
     };
-    if bands <= 6 {
-        fill_plain(
+    if bands <= PLAIN_BANDS {
+        plain_totals(
             h,
             weights,
             bands,
-            seconds,
-            thirds,
+            leg1,
+            leg2,
             flags,
             first,
             second,
@@ -125,12 +115,12 @@ pub fn write_totals(
             totals,
         );
     } else {
-        fill_lists(
+        listed_totals(
             h,
             weights,
             bands,
-            seconds,
-            thirds,
+            leg1,
+            leg2,
             flags,
             first,
             second,

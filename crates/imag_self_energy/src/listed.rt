@@ -4,8 +4,10 @@ use crate::FEW_BANDS;
 use crate::FEW_PLACES;
 use crate::MOST_BANDS;
 use crate::MOST_PLACES;
+use crate::NO_BAND;
 use crate::Shared;
 use crate::block_of;
+use crate::occupations::occupations;
 use phonon::Band;
 use phonon::Weights;
 use planes::part_of;
@@ -16,7 +18,7 @@ ghost use Prim.Native.Nat.{_+_, _*_, _<_, _≤_};
 ghost use lib.ListN.{length, getD};
 ghost use Rattle.phonon.specs.Number.{_⊕_, f0, fold, table};
 ghost use Rattle.phonon.specs.ImagSelfEnergy.{block};
-ghost use Rattle.imag_self_energy.specs.Bands.{mostBands, bandTotal, Sized};
+ghost use Rattle.imag_self_energy.specs.Bands.{mostBands, legBands, bandTotal, Sized};
 ghost use Rattle.imag_self_energy.specs.Lists.{Places, Listed, pairWalk, unflaggedWalk, Factors, warmTerm, coldTerm, placeTerm, pairTotal};
 
 // ---- lists of places
@@ -415,7 +417,7 @@ fn fill_many(
 }
 
 // By lists of the slots that count.
-pub fn fill_lists(
+fn fill_lists(
     h: Shared,
     weights: Weights,
     n: usize,
@@ -459,4 +461,53 @@ pub fn fill_lists(
             totals,
         );
     }
+}
+
+// From the frequencies of the later legs, of n bands each.
+pub fn listed_totals(
+    h: Shared,
+    weights: Weights,
+    n: usize,
+    leg1: &[f64],
+    leg2: &[f64],
+    flags: &[u8],
+    first: &[f64],
+    second: &[f64],
+    strengths: &[f64],
+    totals: &mut [f64],
+)
+    requires { ⌜ Sized weights n (length (now totals)) (now flags) (now first) (now second) (now strengths)
+        × (length (now leg1) ≡ n)
+        × (length (now leg2) ≡ n) ⌝ }
+    ensures { λ _. ⌜ now (totals .exit) ≡ table (length (now (totals .entry)))
+        (λ b. bandTotal h n (block weights b) b (legBands h (now (leg1 .entry))) (legBands h (now (leg2 .entry)))
+        (now (flags .entry)) (now (first .entry)) (now (second .entry)) (now (strengths .entry))) ⌝ }
+{
+    let mut seconds = [NO_BAND; MOST_BANDS];
+    let mut thirds = [NO_BAND; MOST_BANDS];
+    for j in 0..n {
+        let f = leg1[j];
+        let g = leg2[j];
+        let o = occupations(h.temperature, h.cutoff, f, g);
+        seconds[j] = Band {
+            frequency: f,
+            occupation: o.one,
+        };
+        thirds[j] = Band {
+            frequency: g,
+            occupation: o.two,
+        };
+    }
+    fill_lists(
+        h,
+        weights,
+        n,
+        seconds,
+        thirds,
+        flags,
+        first,
+        second,
+        strengths,
+        totals,
+    );
 }

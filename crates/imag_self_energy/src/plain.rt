@@ -1,14 +1,17 @@
 // The totals slot by slot, in listing order, k and then j: of a few bands this is done before lists are made.
-use crate::MOST_BANDS;
+use crate::NO_BAND;
+use crate::PLAIN_BANDS;
 use crate::Shared;
 use crate::block_of;
+use crate::occupations::occupations;
 use phonon::Band;
 use phonon::Weights;
 ghost use mathlib.Core.Path.{_≡_};
+ghost use Prim.Native.Nat.{_≤_};
 ghost use lib.ListN.{length};
 ghost use Rattle.phonon.specs.Number.{table};
 ghost use Rattle.phonon.specs.ImagSelfEnergy.{block};
-ghost use Rattle.imag_self_energy.specs.Bands.{addSlot, bandTotal, Sized};
+ghost use Rattle.imag_self_energy.specs.Bands.{plainBands, legBands, addSlot, bandTotal, Sized};
 
 // One slot, if it counts: p and q are its later bands, x and y its weights, v its strength.
 fn add_slot(sum: f64, h: Shared, flag: u8, p: Band, q: Band, x: f64, y: f64, v: f64) -> f64
@@ -26,19 +29,20 @@ fn add_slot(sum: f64, h: Shared, flag: u8, p: Band, q: Band, x: f64, y: f64, v: 
 }
 
 // The totals of all positions.
-pub fn fill_plain(
+fn fill_plain(
     h: Shared,
     weights: Weights,
     n: usize,
-    seconds: [Band; MOST_BANDS],
-    thirds: [Band; MOST_BANDS],
+    seconds: [Band; PLAIN_BANDS],
+    thirds: [Band; PLAIN_BANDS],
     flags: &[u8],
     first: &[f64],
     second: &[f64],
     strengths: &[f64],
     totals: &mut [f64],
 )
-    requires { ⌜ Sized weights n (length (now totals)) (now flags) (now first) (now second) (now strengths) ⌝ }
+    requires { ⌜ (n ≤ plainBands)
+        × Sized weights n (length (now totals)) (now flags) (now first) (now second) (now strengths) ⌝ }
     ensures { λ _. ⌜ now (totals .exit) ≡ table (length (now (totals .entry)))
         (λ b. bandTotal h n (block weights b) b seconds thirds (now (flags .entry)) (now (first .entry)) (now (second .entry))
         (now (strengths .entry))) ⌝ }
@@ -65,4 +69,54 @@ pub fn fill_plain(
         }
         totals[b] = total;
     }
+}
+
+// From the frequencies of the later legs, of n bands each.
+pub fn plain_totals(
+    h: Shared,
+    weights: Weights,
+    n: usize,
+    leg1: &[f64],
+    leg2: &[f64],
+    flags: &[u8],
+    first: &[f64],
+    second: &[f64],
+    strengths: &[f64],
+    totals: &mut [f64],
+)
+    requires { ⌜ (n ≤ plainBands)
+        × Sized weights n (length (now totals)) (now flags) (now first) (now second) (now strengths)
+        × (length (now leg1) ≡ n)
+        × (length (now leg2) ≡ n) ⌝ }
+    ensures { λ _. ⌜ now (totals .exit) ≡ table (length (now (totals .entry)))
+        (λ b. bandTotal h n (block weights b) b (legBands h (now (leg1 .entry))) (legBands h (now (leg2 .entry)))
+        (now (flags .entry)) (now (first .entry)) (now (second .entry)) (now (strengths .entry))) ⌝ }
+{
+    let mut seconds = [NO_BAND; PLAIN_BANDS];
+    let mut thirds = [NO_BAND; PLAIN_BANDS];
+    for j in 0..n {
+        let f = leg1[j];
+        let g = leg2[j];
+        let o = occupations(h.temperature, h.cutoff, f, g);
+        seconds[j] = Band {
+            frequency: f,
+            occupation: o.one,
+        };
+        thirds[j] = Band {
+            frequency: g,
+            occupation: o.two,
+        };
+    }
+    fill_plain(
+        h,
+        weights,
+        n,
+        seconds,
+        thirds,
+        flags,
+        first,
+        second,
+        strengths,
+        totals,
+    );
 }

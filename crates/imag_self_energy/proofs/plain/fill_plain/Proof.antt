@@ -54,7 +54,7 @@ entry :
     (c .before .before .before .before .before .before .before .before .before .before .before .before .before .args .strengths .now)
 entry c =
     slot-within (c .loop3-test .taken) (c .before .before .before .loop2-test .taken)
-    (sized-within _ (c .before .before .before .before .before .block-of .ensures) (c .before .before .before .before .before .before .loop-test .taken) (c .before .before .before .before .before .before .before .before .before .before .before .before .before .pre))
+    (sized-within _ (c .before .before .before .before .before .block-of .ensures) (c .before .before .before .before .before .before .loop-test .taken) (c .before .before .before .before .before .before .before .before .before .before .before .before .before .pre .1))
 
 loop-holds : tie.Need-loop-holds Inv-loop3 μ-loop3 Inv-loop2 μ-loop2 Inv-loop μ-loop
 loop-holds c = (omega arith, refl, refl, filled-none _ _)
@@ -67,10 +67,10 @@ unfolding fold
 loop2-holds c = (omega arith, refl)
 
 mul-q : tie.Need-mul-q Inv-loop3 μ-loop3 Inv-loop2 μ-loop2 Inv-loop μ-loop
-mul-q c = omega (arith, c .before .before .before .before .before .before .before .before .before .before .pre .few)
+mul-q c = omega (arith, c .before .before .before .before .before .before .before .before .before .before .pre .0)
 
 array-copy-out-q : tie.Need-array-copy-out-q Inv-loop3 μ-loop3 Inv-loop2 μ-loop2 Inv-loop μ-loop
-array-copy-out-q c = omega (arith, c .before .before .before .before .before .before .before .before .before .before .pre .few)
+array-copy-out-q c = omega (arith, c .before .before .before .before .before .before .before .before .before .before .pre .0)
 
 loop3-holds : tie.Need-loop3-holds Inv-loop3 μ-loop3 Inv-loop2 μ-loop2 Inv-loop μ-loop
 unfolding fold
@@ -105,11 +105,11 @@ shared-slice-read-add-slot :
 shared-slice-read-add-slot c = omega (arith, entry (c .before))
 
 mul-add-slot : tie.Need-mul-add-slot Inv-loop3 μ-loop3 Inv-loop2 μ-loop2 Inv-loop μ-loop
-mul-add-slot c = omega (arith, c .before .before .before .before .before .before .before .before .before .before .before .before .before .before .pre .few)
+mul-add-slot c = omega (arith, c .before .before .before .before .before .before .before .before .before .before .before .before .before .before .pre .0)
 
 array-copy-out-add-slot :
     tie.Need-array-copy-out-add-slot Inv-loop3 μ-loop3 Inv-loop2 μ-loop2 Inv-loop μ-loop
-array-copy-out-add-slot c = omega (arith, c .before .before .before .before .before .before .before .before .before .before .before .before .before .before .pre .few)
+array-copy-out-add-slot c = omega (arith, c .before .before .before .before .before .before .before .before .before .before .before .before .before .before .pre .0)
 
 mul-add-slot-2 : tie.Need-mul-add-slot-2 Inv-loop3 μ-loop3 Inv-loop2 μ-loop2 Inv-loop μ-loop
 mul-add-slot-2 c = omega (arith, entry (c .before .before))
