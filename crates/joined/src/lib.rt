@@ -11,7 +11,7 @@ use phonon::Settings;
 use phonon::Symmetry;
 use phonon::Weights;
 use real_to_normal::triplet::work_triplet;
-use refusals::joined::check_joined;
+use refusals::joined_set::check_joined;
 ghost use mathlib.Core.Path.{_≡_};
 ghost use Rattle.phonon.specs.Doors.{JoinedOutcome, joinedOutcome};
 

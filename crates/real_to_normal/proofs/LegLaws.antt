@@ -1,5 +1,5 @@
 -- The stages of the three legs, one after the other: what each writes is kept by those after it, which write further on.
-use mathlib.Core.Path.{_≡_, refl, ap, _∙_}
+use mathlib.Core.Path.{_≡_, ap, _∙_}
 use mathlib.Core.List.{List}
 use Prim.Native.Nat.{ℕ, zero, suc, _+_, _*_, _<_, _≤_}
 use native.Mathlib.Omega.{arith}
@@ -56,28 +56,12 @@ module _ (P : ℕ) (eig : List Float) (g0 g1 g2 : ℕ) {l l₁ l₂ l₃ : List 
 -- ---- phase factors
 
 module _ (P S : ℕ) (vectors : List Float) (multiplicity : List ℤ) (q : Legs (List Float)) {l l₁ : List Float}
-    (w : WroteThree l l₁ (columnsAt P 3) (columnsAt P 3 + 2 * (P * S)) (columnsAt P 3 + 2 * (P * S) + 2 * (P * S)) (P * S) 0 (P * S)
-    (phaseFactorEntry P S vectors multiplicity (q .leg0)) (phaseFactorEntry P S vectors multiplicity (q .leg1)) (phaseFactorEntry P S vectors multiplicity (q .leg2))) where
-  abbrev N : ℕ
-  N = P * S
-
-  abbrev F : ℕ
-  F = columnsAt P 3
-
+    (w : WroteThree l l₁ (columnsAt P 3) (P * S) 0 (P * S) (λ x. phaseFactorEntry P S vectors multiplicity (leg q x))) where
   pub legs-factored : (x : ℕ) → x < 3 → numbersIn l₁ (factorsAt P S x) (P * S) (P * S) ≡ phaseFactors P S vectors multiplicity (leg q x)
   unfolding phaseFactors
-  legs-factored zero h =
-      let e : F + 0 * (2 * N) ≡ F = omega arith in
-      ap (λ o. numbersIn l₁ o N N) e ∙ numbers-wrote (split-same (λ k p. w .first k (omega arith) p))
-  legs-factored (suc zero) h =
-      let e : F + 1 * (2 * N) ≡ F + 2 * N = omega arith in
-      ap (λ o. numbersIn l₁ o N N) e ∙ numbers-wrote (split-same (λ k p. w .second k (omega arith) p))
-  legs-factored (suc (suc zero)) h =
-      let e : F + 2 * (2 * N) ≡ F + 2 * N + 2 * N = omega arith in
-      ap (λ o. numbersIn l₁ o N N) e ∙ numbers-wrote (split-same (λ k p. w .third k (omega arith) p))
-  legs-factored (suc (suc (suc x))) h = absurd (omega arith)
+  legs-factored x h = numbers-wrote (split-same (λ k p. w .inside x k h (omega arith) p))
 
-  pub factored-outside : SameOutside l l₁ F (preAt P S)
+  pub factored-outside : SameOutside l l₁ (columnsAt P 3) (preAt P S)
   factored-outside = record { size = w .size; before = w .before; after = λ j p. w .after j (omega arith) }
 
 -- ---- all of it

@@ -53,11 +53,17 @@ fn factor_legs(
         × SameOutside (now (w .entry)) (now (w .exit)) (columnsAt np 3) (preAt np ns) ⌝ }
 {
     let d = 3 * np * (3 * np);
-    let n = np * ns;
-    let f0 = np + 3 * (2 * d);
-    let f1 = f0 + 2 * n;
-    let f2 = f1 + 2 * n;
-    phase_factors(w, f0, f1, f2, q0, q1, q2, vectors, multiplicity, np, ns);
+    phase_factors(
+        w,
+        np + 3 * (2 * d),
+        q0,
+        q1,
+        q2,
+        vectors,
+        multiplicity,
+        np,
+        ns,
+    );
 }
 
 // All that the legs give: inverse roots, scaled eigenvectors, phase factors.

@@ -1,164 +1,132 @@
 -- Laws of three arrays that are written side by side: how a loop extends what it has written.
-use mathlib.Core.Path.{_≡_, refl, sym, _∙_, subst}
+use mathlib.Core.Path.{_≡_, refl, sym, ap, _∙_, subst}
 use mathlib.Core.Logic.{_≢_}
 use mathlib.Core.List.{List}
-use Prim.Native.Nat.{ℕ, _+_, _*_, _<_, _≤_}
+use Prim.Native.Nat.{ℕ, zero, suc, _+_, _*_, _<_, _≤_}
 use native.Mathlib.Omega.{arith}
-use lib.ListN.{length, length-set}
 use native.Mathlib.Decide.{decLt}
+use lib.ListN.{length, length-set}
 use borrow.Author.Count.{below-more}
 use lib.Ieee.{Float}
 use Rattle.phonon.specs.declared.Complex.{Complex}
 use Rattle.phonon.specs.Number.{at}
 use Rattle.planes.specs.Split.{split, putSplit}
 use Rattle.planes.proofs.SplitLaws.{complex-eq, put-other, put-same}
-use Rattle.real_to_reciprocal.specs.Three.{WroteThree}
+use Rattle.planes.proofs.Products.{row-le, row-same, place-same}
+use Rattle.real_to_reciprocal.specs.Three.{arrayAt, WroteThree}
 
-pub three-none : (l : List Float) (a b c d m : ℕ) (f g h : ℕ → Complex) → WroteThree l l a b c d m m f g h
-three-none l a b c d m f g h =
-    record {
-      size = refl;
-      first = λ k p q. absurd (omega arith);
-      second = λ k p q. absurd (omega arith);
-      third = λ k p q. absurd (omega arith);
-      first-kept = λ k p. refl;
-      second-kept = λ k p. refl;
-      third-kept = λ k p. refl;
-      before = λ j p. refl;
-      after = λ j p. refl;
-    }
+pub three-none : (l : List Float) (a d m : ℕ) (f : ℕ → ℕ → Complex) → WroteThree l l a d m m f
+three-none l a d m f = record { size = refl; inside = λ x k h p q. absurd (omega arith); stays = λ x k h p. refl; before = λ j p. refl; after = λ j p. refl }
 
--- number n of each array is stored
-module _ (l : List Float) (a b c d n : ℕ) (x y z : Complex) (h : n < d) (ab : a + 2 * d ≤ b) (bc : b + 2 * d ≤ c) (room : c + 2 * d ≤ length l) where
+-- number n of array x is stored: what else of the arrays is read is as before
+module _ (l : List Float) (a d n x : ℕ) (z : Complex) (h : n < d) (room : arrayAt a d x + d + n < length l) where
   abbrev l₁ : List Float
-  l₁ = putSplit l a d n x
+  l₁ = putSplit l (arrayAt a d x) d n z
 
-  abbrev l₂ : List Float
-  l₂ = putSplit l₁ b d n y
+  -- place i of array y, unless it is one of the two that were written
+  apart : (y i j : ℕ) → i < 2 * d → j < 2 * d → (y ≡ x → i ≢ j) → arrayAt a d y + i ≢ arrayAt a d x + j
+  apart y i j p q r e =
+      let s : y * (2 * d) + i ≡ x * (2 * d) + j = omega arith in
+      r (row-same (2 * d) y x p q s) (place-same (2 * d) y x p q s)
 
-  abbrev l₃ : List Float
-  l₃ = putSplit l₂ c d n z
+  place : (y i : ℕ) → i < 2 * d → (y ≡ x → i ≢ n) → (y ≡ x → i ≢ d + n) → at l₁ (arrayAt a d y + i) ≡ at l (arrayAt a d y + i)
+  place y i p r s =
+      put-other l (arrayAt a d x) d n z h room (arrayAt a d y + i) (apart y i n p (omega arith) r)
+      (λ (e : arrayAt a d y + i ≡ arrayAt a d x + d + n). apart y i (d + n) p (omega arith) s (omega arith))
 
-  size₁ : length l₁ ≡ length l
-  size₁ = simp length-set refl
+  -- both parts of number k
+  number : (y k : ℕ) → k < d → (y ≡ x → k ≢ n) → split l₁ (arrayAt a d y) d k ≡ split l (arrayAt a d y) d k
+  number y k p r =
+      let e : arrayAt a d y + d + k ≡ arrayAt a d y + (d + k) = omega arith in
+      complex-eq (place y k (omega arith) r (λ q e. omega arith))
+      (ap (at l₁) e ∙ place y (d + k) (omega arith) (λ q e. omega arith) (λ q c. r q (omega arith)) ∙ ap (at l) (sym e))
 
-  size₂ : length l₂ ≡ length l
-  size₂ = simp length-set refl
+  pub other-number : (y k : ℕ) → k < n → split l₁ (arrayAt a d y) d k ≡ split l (arrayAt a d y) d k
+  other-number y k p = number y k (omega arith) (λ q e. omega arith)
 
-  pub three-size : length l₃ ≡ length l
-  three-size = simp length-set refl
+  pub other-array : (y : ℕ) → y ≢ x → split l₁ (arrayAt a d y) d n ≡ split l (arrayAt a d y) d n
+  other-array y p = number y n h (λ q. absurd (p q))
 
-  room₀ : a + d + n < length l
+  pub that-number : split l₁ (arrayAt a d x) d n ≡ z
+  that-number = put-same l (arrayAt a d x) d n z h room
+
+  pub before-all : (j : ℕ) → j < a → at l₁ j ≡ at l j
+  before-all j p = put-other l (arrayAt a d x) d n z h room j (λ (e : j ≡ arrayAt a d x + n). omega arith) (λ (e : j ≡ arrayAt a d x + d + n). omega arith)
+
+  pub after-all : x < 3 → (j : ℕ) → arrayAt a d 3 ≤ j → at l₁ j ≡ at l j
+  after-all q j p =
+      let r = row-le (2 * d) q in
+      put-other l (arrayAt a d x) d n z h room j (λ (e : j ≡ arrayAt a d x + n). omega (arith, r)) (λ (e : j ≡ arrayAt a d x + d + n). omega (arith, r))
+
+-- number n of each array is stored, one array after the other
+module _ (l : List Float) (a d n : ℕ) (u v w : Complex) (h : n < d) (room : arrayAt a d 3 ≤ length l) where
+  abbrev one : List Float
+  one = putSplit l (arrayAt a d 0) d n u
+
+  abbrev two : List Float
+  two = putSplit one (arrayAt a d 1) d n v
+
+  abbrev pub three : List Float
+  three = putSplit two (arrayAt a d 2) d n w
+
+  room₀ : arrayAt a d 0 + d + n < length l
   room₀ = omega arith
 
-  room₁ : b + d + n < length l₁
-  room₁ = omega (arith, size₁)
+  room₁ : arrayAt a d 1 + d + n < length one
+  room₁ = let e : length one ≡ length l = simp length-set refl in omega arith
 
-  room₂ : c + d + n < length l₂
-  room₂ = omega (arith, size₂)
+  room₂ : arrayAt a d 2 + d + n < length two
+  room₂ = let e : length two ≡ length l = simp length-set refl in omega arith
 
-  past-third : (j : ℕ) → j ≢ c + n → j ≢ c + d + n → at l₃ j ≡ at l₂ j
-  past-third = put-other l₂ c d n z h room₂
+  pub three-size : length three ≡ length l
+  three-size = simp length-set refl
 
-  past-second : (j : ℕ) → j ≢ b + n → j ≢ b + d + n → at l₂ j ≡ at l₁ j
-  past-second = put-other l₁ b d n y h room₁
+  pub three-other : (y k : ℕ) → k < n → split three (arrayAt a d y) d k ≡ split l (arrayAt a d y) d k
+  three-other y k p = other-number two a d n 2 w h room₂ y k p ∙ other-number one a d n 1 v h room₁ y k p ∙ other-number l a d n 0 u h room₀ y k p
 
-  past-first : (j : ℕ) → j ≢ a + n → j ≢ a + d + n → at l₁ j ≡ at l j
-  past-first = put-other l a d n x h room₀
+  pub three-same : (f : ℕ → ℕ → Complex) → u ≡ f 0 n → v ≡ f 1 n → w ≡ f 2 n → (y : ℕ) → y < 3 → split three (arrayAt a d y) d n ≡ f y n
+  three-same f p q r zero b =
+      other-array two a d n 2 w h room₂ 0 (λ (e : 0 ≡ 2). omega arith) ∙ other-array one a d n 1 v h room₁ 0 (λ (e : 0 ≡ 1). omega arith) ∙ that-number l a d n 0 u h room₀ ∙ p
+  three-same f p q r (suc zero) b = other-array two a d n 2 w h room₂ 1 (λ (e : 1 ≡ 2). omega arith) ∙ that-number one a d n 1 v h room₁ ∙ q
+  three-same f p q r (suc (suc zero)) b = that-number two a d n 2 w h room₂ ∙ r
+  three-same f p q r (suc (suc (suc y))) b = absurd (omega arith)
 
-  -- outside of the arrays
-  pub three-before : (j : ℕ) → j < a → at l₃ j ≡ at l j
-  three-before j p =
-      past-third j (λ (e : j ≡ c + n). omega arith) (λ (e : j ≡ c + d + n). omega arith)
-      ∙ past-second j (λ (e : j ≡ b + n). omega arith) (λ (e : j ≡ b + d + n). omega arith)
-      ∙ past-first j (λ (e : j ≡ a + n). omega arith) (λ (e : j ≡ a + d + n). omega arith)
+  pub three-before : (j : ℕ) → j < a → at three j ≡ at l j
+  three-before j p = before-all two a d n 2 w h room₂ j p ∙ before-all one a d n 1 v h room₁ j p ∙ before-all l a d n 0 u h room₀ j p
 
-  pub three-after : (j : ℕ) → c + 2 * d ≤ j → at l₃ j ≡ at l j
-  three-after j p =
-      past-third j (λ (e : j ≡ c + n). omega arith) (λ (e : j ≡ c + d + n). omega arith)
-      ∙ past-second j (λ (e : j ≡ b + n). omega arith) (λ (e : j ≡ b + d + n). omega arith)
-      ∙ past-first j (λ (e : j ≡ a + n). omega arith) (λ (e : j ≡ a + d + n). omega arith)
+  pub three-after : (j : ℕ) → arrayAt a d 3 ≤ j → at three j ≡ at l j
+  three-after j p = after-all two a d n 2 w h room₂ (omega arith) j p ∙ after-all one a d n 1 v h room₁ (omega arith) j p ∙ after-all l a d n 0 u h room₀ (omega arith) j p
 
-  -- the arrays' other numbers below n
-  first-at : (j : ℕ) → j < b → at l₃ j ≡ at l₁ j
-  first-at j p =
-      past-third j (λ (e : j ≡ c + n). omega arith) (λ (e : j ≡ c + d + n). omega arith)
-      ∙ past-second j (λ (e : j ≡ b + n). omega arith) (λ (e : j ≡ b + d + n). omega arith)
-
-  pub first-other : (k : ℕ) → k < n → split l₃ a d k ≡ split l a d k
-  first-other k p =
-      complex-eq
-      (first-at (a + k) (omega arith) ∙ past-first (a + k) (λ (e : a + k ≡ a + n). omega arith) (λ (e : a + k ≡ a + d + n). omega arith))
-      (first-at (a + d + k) (omega arith) ∙ past-first (a + d + k) (λ (e : a + d + k ≡ a + n). omega arith) (λ (e : a + d + k ≡ a + d + n). omega arith))
-
-  pub first-same : split l₃ a d n ≡ x
-  first-same = complex-eq (first-at (a + n) (omega arith)) (first-at (a + d + n) (omega arith)) ∙ put-same l a d n x h room₀
-
-  second-at : (j : ℕ) → j < c → at l₃ j ≡ at l₂ j
-  second-at j p = past-third j (λ (e : j ≡ c + n). omega arith) (λ (e : j ≡ c + d + n). omega arith)
-
-  pub second-other : (k : ℕ) → k < n → split l₃ b d k ≡ split l b d k
-  second-other k p =
-      complex-eq
-      (second-at (b + k) (omega arith) ∙ past-second (b + k) (λ (e : b + k ≡ b + n). omega arith) (λ (e : b + k ≡ b + d + n). omega arith)
-      ∙ past-first (b + k) (λ (e : b + k ≡ a + n). omega arith) (λ (e : b + k ≡ a + d + n). omega arith))
-      (second-at (b + d + k) (omega arith) ∙ past-second (b + d + k) (λ (e : b + d + k ≡ b + n). omega arith) (λ (e : b + d + k ≡ b + d + n). omega arith)
-      ∙ past-first (b + d + k) (λ (e : b + d + k ≡ a + n). omega arith) (λ (e : b + d + k ≡ a + d + n). omega arith))
-
-  pub second-same : split l₃ b d n ≡ y
-  second-same = complex-eq (second-at (b + n) (omega arith)) (second-at (b + d + n) (omega arith)) ∙ put-same l₁ b d n y h room₁
-
-  pub third-other : (k : ℕ) → k < n → split l₃ c d k ≡ split l c d k
-  third-other k p =
-      complex-eq
-      (past-third (c + k) (λ (e : c + k ≡ c + n). omega arith) (λ (e : c + k ≡ c + d + n). omega arith)
-      ∙ past-second (c + k) (λ (e : c + k ≡ b + n). omega arith) (λ (e : c + k ≡ b + d + n). omega arith)
-      ∙ past-first (c + k) (λ (e : c + k ≡ a + n). omega arith) (λ (e : c + k ≡ a + d + n). omega arith))
-      (past-third (c + d + k) (λ (e : c + d + k ≡ c + n). omega arith) (λ (e : c + d + k ≡ c + d + n). omega arith)
-      ∙ past-second (c + d + k) (λ (e : c + d + k ≡ b + n). omega arith) (λ (e : c + d + k ≡ b + d + n). omega arith)
-      ∙ past-first (c + d + k) (λ (e : c + d + k ≡ a + n). omega arith) (λ (e : c + d + k ≡ a + d + n). omega arith))
-
-  pub third-same : split l₃ c d n ≡ z
-  third-same = put-same l₂ c d n z h room₂
-
--- one number more of each
-pub three-step : {l l₁ l₂ l₃ l₄ : List Float} {a b c d m n : ℕ} {f g h : ℕ → Complex} (x y z : Complex) → WroteThree l l₁ a b c d m n f g h → m ≤ n → n < d
-    → a + 2 * d ≤ b → b + 2 * d ≤ c → c + 2 * d ≤ length l → l₂ ≡ putSplit l₁ a d n x → l₃ ≡ putSplit l₂ b d n y → l₄ ≡ putSplit l₃ c d n z
-    → x ≡ f n → y ≡ g n → z ≡ h n → WroteThree l l₄ a b c d m (n + 1) f g h
-three-step {l} {l₁} {l₂} {l₃} {l₄} {a} {b} {c} {d} {m} {n} {f} {g} {h} x y z w mn nd ab bc room e₂ e₃ e₄ ex ey ez =
-    subst (λ (v : List Float). WroteThree l v a b c d m (n + 1) f g h) (sym whole)
+-- one number more of each array
+pub three-step : {l l₁ l₂ l₃ l₄ : List Float} {a d m n : ℕ} {f : ℕ → ℕ → Complex} (u v w : Complex) {p₀ p₁ p₂ : ℕ} → WroteThree l l₁ a d m n f → m ≤ n → n < d → arrayAt a d 3 ≤ length l
+    → p₀ ≡ arrayAt a d 0 → p₁ ≡ arrayAt a d 1 → p₂ ≡ arrayAt a d 2 → l₂ ≡ putSplit l₁ p₀ d n u → l₃ ≡ putSplit l₂ p₁ d n v → l₄ ≡ putSplit l₃ p₂ d n w
+    → u ≡ f 0 n → v ≡ f 1 n → w ≡ f 2 n → WroteThree l l₄ a d m (n + 1) f
+three-step {l} {l₁} {l₂} {l₃} {l₄} {a} {d} {m} {n} {f} u v w t mn nd room e₀ e₁ e₂ s₁ s₂ s₃ eu ev ew =
+    subst (λ (last : List Float). WroteThree l last a d m (n + 1) f) (sym whole)
     (record {
-      size = three-size l₁ a b c d n x y z nd ab bc room₁ ∙ w .size;
-      first = λ k p q. below-more (λ k. m ≤ k → split last a d k ≡ f k) n (λ k r s. first-other l₁ a b c d n x y z nd ab bc room₁ k r ∙ w .first k s r) (λ s. first-same l₁ a b c d n x y z nd ab bc room₁ ∙ ex) k q p;
-      second = λ k p q. below-more (λ k. m ≤ k → split last b d k ≡ g k) n (λ k r s. second-other l₁ a b c d n x y z nd ab bc room₁ k r ∙ w .second k s r) (λ s. second-same l₁ a b c d n x y z nd ab bc room₁ ∙ ey) k q p;
-      third = λ k p q. below-more (λ k. m ≤ k → split last c d k ≡ h k) n (λ k r s. third-other l₁ a b c d n x y z nd ab bc room₁ k r ∙ w .third k s r) (λ s. third-same l₁ a b c d n x y z nd ab bc room₁ ∙ ez) k q p;
-      first-kept = λ k p. first-other l₁ a b c d n x y z nd ab bc room₁ k (omega arith) ∙ w .first-kept k p;
-      second-kept = λ k p. second-other l₁ a b c d n x y z nd ab bc room₁ k (omega arith) ∙ w .second-kept k p;
-      third-kept = λ k p. third-other l₁ a b c d n x y z nd ab bc room₁ k (omega arith) ∙ w .third-kept k p;
-      before = λ j p. three-before l₁ a b c d n x y z nd ab bc room₁ j p ∙ w .before j p;
-      after = λ j p. three-after l₁ a b c d n x y z nd ab bc room₁ j p ∙ w .after j p;
+      size = three-size l₁ a d n u v w nd room₁ ∙ t .size;
+      inside = λ y k b p q. below-more (λ k. m ≤ k → split last (arrayAt a d y) d k ≡ f y k) n (λ k r s. three-other l₁ a d n u v w nd room₁ y k r ∙ t .inside y k b s r) (λ s. three-same l₁ a d n u v w nd room₁ f eu ev ew y b) k q p;
+      stays = λ y k b p. three-other l₁ a d n u v w nd room₁ y k (omega arith) ∙ t .stays y k b p;
+      before = λ j p. three-before l₁ a d n u v w nd room₁ j p ∙ t .before j p;
+      after = λ j p. three-after l₁ a d n u v w nd room₁ j p ∙ t .after j p;
     })
   where
+    room₁ : arrayAt a d 3 ≤ length l₁
+    room₁ = omega (arith, t .size)
+
     last : List Float
-    last = putSplit (putSplit (putSplit l₁ a d n x) b d n y) c d n z
+    last = three l₁ a d n u v w nd room₁
 
     whole : l₄ ≡ last
-    whole = e₄ ∙ rw (e₃, e₂) refl
-
-    room₁ : c + 2 * d ≤ length l₁
-    room₁ = omega (arith, w .size)
+    whole = s₃ ∙ rw (s₂, s₁, e₀, e₁, e₂) refl
 
 -- numbers from m to n, and then those from n to r
-pub three-join : {l l₁ l₂ : List Float} {a b c d m n r : ℕ} {f g h : ℕ → Complex} → WroteThree l l₁ a b c d m n f g h → WroteThree l₁ l₂ a b c d n r f g h → m ≤ n → WroteThree l l₂ a b c d m r f g h
-three-join {l} {l₁} {l₂} {a} {b} {c} {d} {m} {n} {r} {f} {g} {h} w v mn =
+pub three-join : {l l₁ l₂ : List Float} {a d m n r : ℕ} {f : ℕ → ℕ → Complex} → WroteThree l l₁ a d m n f → WroteThree l₁ l₂ a d n r f → m ≤ n → WroteThree l l₂ a d m r f
+three-join {n = n} w v mn =
     record {
       size = v .size ∙ w .size;
-      first = λ k p q. either k (decLt k n) (λ s. v .first-kept k s ∙ w .first k p s) (λ s. v .first k s q);
-      second = λ k p q. either k (decLt k n) (λ s. v .second-kept k s ∙ w .second k p s) (λ s. v .second k s q);
-      third = λ k p q. either k (decLt k n) (λ s. v .third-kept k s ∙ w .third k p s) (λ s. v .third k s q);
-      first-kept = λ k p. v .first-kept k (omega arith) ∙ w .first-kept k p;
-      second-kept = λ k p. v .second-kept k (omega arith) ∙ w .second-kept k p;
-      third-kept = λ k p. v .third-kept k (omega arith) ∙ w .third-kept k p;
+      inside = λ x k b p q. either k (decLt k n) (λ s. v .stays x k b s ∙ w .inside x k b p s) (λ s. v .inside x k b s q);
+      stays = λ x k b p. v .stays x k b (omega arith) ∙ w .stays x k b p;
       before = λ j p. v .before j p ∙ w .before j p;
       after = λ j p. v .after j p ∙ w .after j p;
     }

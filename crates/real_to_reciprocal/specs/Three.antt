@@ -8,15 +8,14 @@ use Rattle.phonon.specs.declared.Complex.{Complex}
 use Rattle.phonon.specs.Number.{at}
 use Rattle.planes.specs.Split.{split}
 
--- l′ is l with the numbers from m to below n of the arrays at a, b and c, whose planes are d apart, replaced by those of f, g and h.
--- Nothing is said of the later numbers of the arrays.
-pub record WroteThree (l l′ : List Float) (a b c d m n : ℕ) (f g h : ℕ → Complex) : Type 0 where
+-- where array x begins, of arrays whose planes have d numbers each, from a on
+abbrev pub arrayAt : ℕ → ℕ → ℕ → ℕ
+arrayAt a d x = a + x * (2 * d)
+
+-- l′ is l with the numbers from m to below n of each array x replaced by those of f x. Nothing is said of the arrays' later numbers.
+pub record WroteThree (l l′ : List Float) (a d m n : ℕ) (f : ℕ → ℕ → Complex) : Type 0 where
   pub size : length l′ ≡ length l
-  pub first : (k : ℕ) → m ≤ k → k < n → split l′ a d k ≡ f k
-  pub second : (k : ℕ) → m ≤ k → k < n → split l′ b d k ≡ g k
-  pub third : (k : ℕ) → m ≤ k → k < n → split l′ c d k ≡ h k
-  pub first-kept : (k : ℕ) → k < m → split l′ a d k ≡ split l a d k
-  pub second-kept : (k : ℕ) → k < m → split l′ b d k ≡ split l b d k
-  pub third-kept : (k : ℕ) → k < m → split l′ c d k ≡ split l c d k
+  pub inside : (x k : ℕ) → x < 3 → m ≤ k → k < n → split l′ (arrayAt a d x) d k ≡ f x k
+  pub stays : (x k : ℕ) → x < 3 → k < m → split l′ (arrayAt a d x) d k ≡ split l (arrayAt a d x) d k
   pub before : (j : ℕ) → j < a → at l′ j ≡ at l j
-  pub after : (j : ℕ) → c + 2 * d ≤ j → at l′ j ≡ at l j
+  pub after : (j : ℕ) → arrayAt a d 3 ≤ j → at l′ j ≡ at l j

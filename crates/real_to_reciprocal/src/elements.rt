@@ -155,8 +155,8 @@ fn add_held(t: &mut [f64], constants: &[f64], held: Held)
     }
 }
 
-// Whether blocks are added two by two; the sums are the same either way. For a leg alone most of them stay in registers
-// from pair to pair, and two at once took up to 3 % longer.
+// Whether blocks are added two by two; the sums are the same either way. For a leg alone two at once took up to 5 % longer
+// than one.
 fn two_by_two(leg: Leg) -> bool {
     match leg {
         Leg::Alone => false,

@@ -14,9 +14,10 @@ ghost use lib.ListN.{length};
 ghost use Rattle.phonon.specs.Number.{_⊕_, _⊗_, _⊘_, float, index, int};
 ghost use Rattle.phonon.specs.declared.Complex.{Complex};
 ghost use Rattle.phonon.specs.Common.{cadd};
+ghost use Rattle.phonon.specs.Interaction.{leg};
 ghost use Rattle.phonon.specs.RealToReciprocal as Def;
 ghost use Rattle.planes.specs.Split.{WroteSplit};
-ghost use Rattle.real_to_reciprocal.specs.Three.{WroteThree};
+ghost use Rattle.real_to_reciprocal.specs.Three.{arrayAt, WroteThree};
 ghost use Rattle.real_to_reciprocal.specs.Shape.{Anchored, Ranged};
 
 // 400921FB54442D18
@@ -149,13 +150,11 @@ fn get_phase_factors(
     }
 }
 
-// The phase factors of atom i and each supercell atom, at the three q: numbers i * ns to i * ns + ns of the arrays at f0, f1
-// and f2, whose planes are d apart.
+// The phase factors of atom i and each supercell atom, at the three q: numbers i * ns to i * ns + ns of three arrays, one behind
+// the other from fo on, whose planes are d apart.
 fn phase_factor_row(
     w: &mut [f64],
-    f0: usize,
-    f1: usize,
-    f2: usize,
+    fo: usize,
     d: usize,
     q0: &[f64; 3],
     q1: &[f64; 3],
@@ -166,35 +165,30 @@ fn phase_factor_row(
     ns: usize,
     i: usize,
 )
-    requires { ⌜ (i < np)
-        × (np * ns ≤ d)
-        × (f0 + 2 * d ≤ f1)
-        × (f1 + 2 * d ≤ f2)
-        × (f2 + 2 * d ≤ length (now w))
-        × Ranged (now vectors) (now multiplicity) (ns * np) ⌝ }
-    ensures { λ _. ⌜ WroteThree (now (w .entry)) (now (w .exit)) f0 f1 f2 d (i * ns) (i * ns + ns)
-        (Def.phaseFactorEntry np ns (now (vectors .entry)) (now (multiplicity .entry)) (now (q0 .entry)))
-        (Def.phaseFactorEntry np ns (now (vectors .entry)) (now (multiplicity .entry)) (now (q1 .entry)))
-        (Def.phaseFactorEntry np ns (now (vectors .entry)) (now (multiplicity .entry)) (now (q2 .entry))) ⌝ }
+    requires { ⌜ (i < np) × (np * ns ≤ d) × (arrayAt fo d 3 ≤ length (now w)) × Ranged (now vectors) (now multiplicity) (ns * np) ⌝ }
+    ensures { λ _. ⌜ WroteThree (now (w .entry)) (now (w .exit)) fo d (i * ns) (i * ns + ns)
+        (λ x. Def.phaseFactorEntry np ns (now (vectors .entry)) (now (multiplicity .entry))
+        (leg (record { leg0 = now (q0 .entry); leg1 = now (q1 .entry); leg2 = now (q2 .entry) }) x)) ⌝ }
 {
+    let f1 = fo + 2 * d;
+    let f2 = f1 + 2 * d;
     for j in 0..ns {
         let n = 2 * (j * np + i);
         let count = index_at(multiplicity, n);
         let start = index_at(multiplicity, n + 1);
         let z = get_phase_factors(q0, q1, q2, vectors, count, start);
         let k = i * ns + j;
-        put_split(w, f0, d, k, z.leg0);
+        put_split(w, fo, d, k, z.leg0);
         put_split(w, f1, d, k, z.leg1);
         put_split(w, f2, d, k, z.leg2);
     }
 }
 
-// The phase factors of the three legs, whose q are given: of each np * ns numbers in planes, from f0, f1 and f2 on.
+// The phase factors of the three legs, whose q are given: of each np * ns numbers in planes, one array behind the other from
+// fo on.
 pub fn phase_factors(
     w: &mut [f64],
-    f0: usize,
-    f1: usize,
-    f2: usize,
+    fo: usize,
     q0: &[f64; 3],
     q1: &[f64; 3],
     q2: &[f64; 3],
@@ -203,32 +197,14 @@ pub fn phase_factors(
     np: usize,
     ns: usize,
 )
-    requires { ⌜ (f0 + 2 * (np * ns) ≤ f1)
-        × (f1 + 2 * (np * ns) ≤ f2)
-        × (f2 + 2 * (np * ns) ≤ length (now w))
-        × Ranged (now vectors) (now multiplicity) (ns * np) ⌝ }
-    ensures { λ _. ⌜ WroteThree (now (w .entry)) (now (w .exit)) f0 f1 f2 (np * ns) 0 (np * ns)
-        (Def.phaseFactorEntry np ns (now (vectors .entry)) (now (multiplicity .entry)) (now (q0 .entry)))
-        (Def.phaseFactorEntry np ns (now (vectors .entry)) (now (multiplicity .entry)) (now (q1 .entry)))
-        (Def.phaseFactorEntry np ns (now (vectors .entry)) (now (multiplicity .entry)) (now (q2 .entry))) ⌝ }
+    requires { ⌜ (arrayAt fo (np * ns) 3 ≤ length (now w)) × Ranged (now vectors) (now multiplicity) (ns * np) ⌝ }
+    ensures { λ _. ⌜ WroteThree (now (w .entry)) (now (w .exit)) fo (np * ns) 0 (np * ns)
+        (λ x. Def.phaseFactorEntry np ns (now (vectors .entry)) (now (multiplicity .entry))
+        (leg (record { leg0 = now (q0 .entry); leg1 = now (q1 .entry); leg2 = now (q2 .entry) }) x)) ⌝ }
 {
     let d = np * ns;
     for i in 0..np {
-        phase_factor_row(
-            w,
-            f0,
-            f1,
-            f2,
-            d,
-            q0,
-            q1,
-            q2,
-            vectors,
-            multiplicity,
-            np,
-            ns,
-            i,
-        );
+        phase_factor_row(w, fo, d, q0, q1, q2, vectors, multiplicity, np, ns, i);
     }
 }
 

@@ -1,10 +1,9 @@
 -- One call, which writes the stretches of all three legs.
 use mathlib.Core.List.{List}
+use borrow.Author.Needs.{needs}
 use lib.Ieee.{Float}
 use Rattle.phonon.specs.Sets.{Legs}
 use Rattle.real_to_normal.proofs.LegLaws.{legs-factored, factored-outside}
-use native.Mathlib.Omega.{arith}
-use borrow.Author.Needs.{needs}
 use Rattle.real_to_normal.proofs.legs.factor_legs.Statement.{statement}
 use Rattle.real_to_normal.proofs.legs.factor_legs.Tie as tie
 
@@ -17,29 +16,14 @@ mul-d-2 c = search needs
 mul-d-3 : tie.Need-mul-d-3
 mul-d-3 c = search needs
 
-mul-n : tie.Need-mul-n
-mul-n c = search needs
+mul-phase-factors : tie.Need-mul-phase-factors
+mul-phase-factors c = search needs
 
-mul-f0 : tie.Need-mul-f0
-mul-f0 c = search needs
+mul-phase-factors-2 : tie.Need-mul-phase-factors-2
+mul-phase-factors-2 c = search needs
 
-mul-f0-2 : tie.Need-mul-f0-2
-mul-f0-2 c = omega arith
-
-add-f0 : tie.Need-add-f0
-add-f0 c = search needs
-
-mul-f1 : tie.Need-mul-f1
-mul-f1 c = search needs
-
-add-f1 : tie.Need-add-f1
-add-f1 c = search needs
-
-mul-f2 : tie.Need-mul-f2
-mul-f2 c = search needs
-
-add-f2 : tie.Need-add-f2
-add-f2 c = search needs
+add-phase-factors : tie.Need-add-phase-factors
+add-phase-factors c = search needs
 
 phase-factors-requires : tie.Need-phase-factors-requires
 phase-factors-requires c κs = search needs
@@ -49,11 +33,10 @@ same-length c = search needs
 
 returns : tie.Need-returns
 returns c =
-    let w = c .before .before in
-    let start = w .before .before .before .before in
-    let a = start .args in
+    let w = c .before .before .phase-factors .ensures in
+    let a = c .before .before .before .before .before .before .args in
     let q : Legs (List Float) = record { leg0 = a .q0 .now; leg1 = a .q1 .now; leg2 = a .q2 .now } in
-    (legs-factored (a .np) (a .ns) (a .vectors .now) (a .multiplicity .now) q (w .phase-factors .ensures), factored-outside (a .np) (a .ns) (a .vectors .now) (a .multiplicity .now) q (w .phase-factors .ensures))
+    (legs-factored (a .np) (a .ns) (a .vectors .now) (a .multiplicity .now) q w, factored-outside (a .np) (a .ns) (a .vectors .now) (a .multiplicity .now) q w)
 
 pub factor-legs-spec : {M : Type 1} → statement M
 factor-legs-spec =
@@ -62,14 +45,9 @@ factor-legs-spec =
     mul-d
     mul-d-2
     mul-d-3
-    mul-n
-    mul-f0
-    mul-f0-2
-    add-f0
-    mul-f1
-    add-f1
-    mul-f2
-    add-f2
+    mul-phase-factors
+    mul-phase-factors-2
+    add-phase-factors
     phase-factors-requires
     same-length
     returns)

@@ -1,9 +1,10 @@
 -- The phase factors of the three legs: after i turns those of i atoms, row behind row.
-use mathlib.Core.Path.{_≡_, refl}
-use Prim.Native.Nat.{_+_, _*_, _-_, _≤_}
+use mathlib.Core.Path.{_≡_}
+use Prim.Native.Nat.{_*_, _-_, _≤_}
 use native.Mathlib.Nat.{zero-mul}
+use Rattle.phonon.specs.Interaction.{leg}
 use Rattle.phonon.specs.RealToReciprocal.{phaseFactorEntry}
-use Rattle.planes.proofs.Products.{row-le, row-next}
+use Rattle.planes.proofs.Products.{row-next}
 use Rattle.real_to_reciprocal.specs.Three.{WroteThree}
 use Rattle.real_to_reciprocal.proofs.ThreeLaws.{three-none, three-join}
 use native.Mathlib.Omega.{arith}
@@ -11,23 +12,22 @@ use Rattle.real_to_reciprocal.proofs.phases.phase_factors.Statement.{st
 use Rattle.real_to_reciprocal.proofs.phases.phase_factors.Tie as tie
 
 abbrev Inv-loop : tie.InvT-loop
-Inv-loop w₀ f0 f1 f2 q0 q1 q2 vectors multiplicity np ns d i₀ w i =
-    (i ≤ np)
-    × WroteThree w₀ w f0 f1 f2 d 0 (i * ns) (phaseFactorEntry np ns vectors multiplicity q0) (phaseFactorEntry np ns vectors multiplicity q1) (phaseFactorEntry np ns vectors multiplicity q2)
+Inv-loop w₀ fo q0 q1 q2 vectors multiplicity np ns d i₀ w i =
+    (i ≤ np) × WroteThree w₀ w fo d 0 (i * ns) (λ x. phaseFactorEntry np ns vectors multiplicity (leg (record { leg0 = q0; leg1 = q1; leg2 = q2 }) x))
 
 abbrev μ-loop : tie.MeasureT-loop
-μ-loop w₀ f0 f1 f2 q0 q1 q2 vectors multiplicity np ns d i₀ w i = np - i
+μ-loop w₀ fo q0 q1 q2 vectors multiplicity np ns d i₀ w i = np - i
 
 mul-d : tie.Need-mul-d Inv-loop μ-loop
 mul-d c = omega arith
 
 loop-holds : tie.Need-loop-holds Inv-loop μ-loop
-loop-holds c = (omega arith, rw (zero-mul (c .before .before .args .ns)) (three-none _ _ _ _ _ _ _ _ _))
+loop-holds c = (omega arith, rw (zero-mul (c .before .before .args .ns)) (three-none _ _ _ _ _))
 
 phase-factor-row-requires : tie.Need-phase-factor-row-requires Inv-loop μ-loop
 phase-factor-row-requires c κs =
     let start = c .before .before .before .before .before in
-    (c .before .loop-test .taken, omega arith, start .pre .0, start .pre .1, omega (arith, c .before .before .loop .inv .1 .size, start .pre .2), start .pre .3)
+    (c .before .loop-test .taken, omega arith, omega (arith, c .before .before .loop .inv .1 .size, start .pre .0), start .pre .1)
 
 add-i : tie.Need-add-i Inv-loop μ-loop
 add-i c = omega arith

@@ -7,8 +7,8 @@ use Rattle.phonon.proofs.Lowest.{stop, join}
 use Rattle.checks.proofs.MeasureLaws.{within-told, beyond-told}
 use Rattle.checks.proofs.AnswerLaws.{refused, checked-is, number-is}
 use Rattle.refusals.proofs.TableLaws.{bath-same}
-use Rattle.refusals.proofs.joined.check_joined.Statement.{statement}
-use Rattle.refusals.proofs.joined.check_joined.Tie as tie
+use Rattle.refusals.proofs.joined_set.check_joined.Statement.{statement}
+use Rattle.refusals.proofs.joined_set.check_joined.Tie as tie
 
 check-measures-requires : tie.Need-check-measures-requires
 check-measures-requires c κs = search needs
