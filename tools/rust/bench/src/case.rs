@@ -56,6 +56,9 @@ impl Timed {
     }
 }
 
+/// The sizes that are timed, by their atoms: cartons of an exam have one to three.
+pub const ATOMS: [u64; 5] = [1, 2, 3, 4, 8];
+
 /// The triplets of a list.
 const LIST: [[i64; 3]; 8] = [
     [0, 1, 2],
@@ -87,7 +90,7 @@ impl Case {
         let mut cases = Vec::new();
         for &(averaged, symmetrized) in choices {
             for half_flagged in [false, true] {
-                for atoms in [1, 2, 4, 8] {
+                for atoms in ATOMS {
                     cases.push(Case {
                         timed,
                         atoms,

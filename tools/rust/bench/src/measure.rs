@@ -1,4 +1,4 @@
-//! One case: the same bits first, then both sides in turn, the least time of several rounds each.
+//! One case: the same bits first, then all sides in turn, the least time of several rounds each.
 
 use crate::case::{Case, Timed};
 use crate::rust_side::RustSide;
@@ -40,6 +40,8 @@ fn now() -> Duration {
 pub struct Times {
     pub rattle: f64,
     pub rust: f64,
+    /// Of a second library, where one is linked.
+    pub beside: Option<f64>,
 }
 
 impl Times {
@@ -47,6 +49,23 @@ impl Times {
         self.rattle / self.rust
     }
 }
+
+/// How many libraries are linked.
+const LIBRARIES: usize = if cfg!(feature = "beside") { 2 } else { 1 };
+
+/// From now on the doors are those of library n: 0 or, where two are linked, 1.
+#[cfg(feature = "beside")]
+fn pick(n: usize) {
+    extern "C" {
+        fn wirambolo_pick(n: usize);
+    }
+    assert!(n < LIBRARIES);
+    // Safety: tools/bench links the function, which has a place for each of two libraries.
+    unsafe { wirambolo_pick(n) }
+}
+
+#[cfg(not(feature = "beside"))]
+fn pick(_: usize) {}
 
 fn lend(buffers: &mut Buffers) -> Lent<'_> {
     Lent {
@@ -102,11 +121,14 @@ fn micros(time: Duration, calls: u32) -> f64 {
     time.as_secs_f64() * 1e6 / f64::from(calls)
 }
 
-/// The least times of so many rounds, the two sides alternating.
+/// The least times of so many rounds, the sides alternating.
 pub fn measure(case: &Case, doors: &dyn Doors, rounds: u32) -> Result<Times, String> {
     let call = case.call();
     let mut rust = RustSide::of(&call);
-    check(case, &call, doors, &mut rust)?;
+    for n in 0..LIBRARIES {
+        pick(n);
+        check(case, &call, doors, &mut rust)?;
+    }
     let mut buffers = call.before.clone();
     let mut rattle_work = || {
         black_box(doors.answer(black_box(&call), lend(&mut buffers)));
@@ -116,16 +138,25 @@ pub fn measure(case: &Case, doors: &dyn Doors, rounds: u32) -> Result<Times, Str
         calls_in_batch(&mut rattle_work),
         calls_in_batch(&mut rust_work),
     );
-    let mut least = Times {
-        rattle: f64::INFINITY,
-        rust: f64::INFINITY,
-    };
+    // The Rust comes behind the libraries.
+    let mut least = [f64::INFINITY; LIBRARIES + 1];
     let triplets = case.triplets() as f64;
-    for _ in 0..rounds.max(1) {
-        let rattle = micros(batch(calls.0, &mut rattle_work), calls.0) / triplets;
-        let rust = micros(batch(calls.1, &mut rust_work), calls.1) / triplets;
-        least.rattle = least.rattle.min(rattle);
-        least.rust = least.rust.min(rust);
+    for round in 0..rounds.max(1) as usize {
+        // Each side begins in its turn: the one behind another that has just read the same tables finds them in the cache.
+        for place in 0..=LIBRARIES {
+            let side = (round + place) % (LIBRARIES + 1);
+            let time = if side < LIBRARIES {
+                pick(side);
+                micros(batch(calls.0, &mut rattle_work), calls.0)
+            } else {
+                micros(batch(calls.1, &mut rust_work), calls.1)
+            };
+            least[side] = least[side].min(time / triplets);
+        }
     }
-    Ok(least)
+    Ok(Times {
+        rattle: least[0],
+        rust: least[LIBRARIES],
+        beside: (LIBRARIES == 2).then(|| least[1]),
+    })
 }

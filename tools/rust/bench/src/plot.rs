@@ -1,6 +1,6 @@
 //! The plot: for each door a panel of the ratio and one of the times against P, as SVG.
 
-use crate::case::{Case, Timed};
+use crate::case::{Case, Timed, ATOMS};
 use crate::report::Row;
 
 const WIDTH: f64 = 360.0;
@@ -22,7 +22,7 @@ struct Panel {
 }
 
 impl Panel {
-    /// P = 1, 2, 4, 8 stand at equal steps.
+    /// P doubles at equal steps.
     fn across(&self, atoms: u64) -> f64 {
         self.x + WIDTH * (0.06 + 0.88 * (atoms as f64).log2() / 3.0)
     }
@@ -67,7 +67,7 @@ impl Panel {
             svg += &line(self.x, y, self.x + WIDTH, y, "#ddd");
             svg += &text(self.x - 6.0, y + 4.0, "end", &format!("{tick}"));
         }
-        for atoms in [1, 2, 4, 8] {
+        for atoms in ATOMS {
             let label = format!("P = {atoms}");
             svg += &text(self.across(atoms), self.y + HEIGHT + 16.0, "middle", &label);
         }
@@ -257,6 +257,7 @@ mod tests {
                     Times {
                         rattle: 0.7 * rust,
                         rust,
+                        beside: None,
                     },
                 )
             })
