@@ -12,7 +12,6 @@ ghost use Prim.Native.Nat.{_+_, _*_, _<_, _≤_};
 ghost use lib.IntN.{pos};
 ghost use lib.ListN.{length};
 ghost use Rattle.phonon.specs.Number.{_⊕_, _⊗_, _⊘_, float, index, int};
-ghost use Rattle.phonon.specs.declared.Complex.{Complex};
 ghost use Rattle.phonon.specs.Common.{cadd};
 ghost use Rattle.phonon.specs.Interaction.{leg};
 ghost use Rattle.phonon.specs.RealToReciprocal as Def;
@@ -60,30 +59,15 @@ pub fn phase(q: &[f64; 3], vectors: &[f64], v: usize) -> f64
     (q[0] * vectors[3 * v] + q[1] * vectors[3 * v + 1] + q[2] * vectors[3 * v + 2]) * 2.0 * PI
 }
 
-// A phase between the two parts of its factor. They are stored one by one; neighbours would be read at once, which has to
-// wait for both stores.
-struct Turn {
-    re: f64,
-    phase: f64,
-    im: f64,
-}
-
 // The cosine and the sine of x.
-fn cis(x: f64) -> Turn
-    ensures { λ r. ⌜ _≡_ {A = Complex} (record { re = r .re; im = r .im }) (Def.cis x) ⌝ }
+fn cis(x: f64) -> Complex
+    ensures { λ r. ⌜ r ≡ Def.cis x ⌝ }
 {
     let p = sin_cos(x);
-    Turn {
+    Complex {
         re: p.cos,
-        phase: x,
         im: p.sin,
     }
-}
-
-fn factor_of(t: Turn) -> Complex
-    ensures { λ r. ⌜ _≡_ {A = Complex} r (record { re = t .re; im = t .im }) ⌝ }
-{
-    Complex { re: t.re, im: t.im }
 }
 
 // A number of each leg.
@@ -238,8 +222,7 @@ fn get_pre_phase_factor(
         (record { leg0 = now (q0 .entry); leg1 = now (q1 .entry); leg2 = now (q2 .entry) }) i ⌝ }
 {
     let n = 2 * (index_at(p2s, i) * np) + 1;
-    let turn = cis(pre_phase(vectors, q0, q1, q2, index_at(multiplicity, n)));
-    factor_of(turn)
+    cis(pre_phase(vectors, q0, q1, q2, index_at(multiplicity, n)))
 }
 
 // The pre-factors: np numbers in planes from `off` on.

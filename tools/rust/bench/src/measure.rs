@@ -48,6 +48,15 @@ impl Times {
     pub fn ratio(&self) -> f64 {
         self.rattle / self.rust
     }
+
+    /// The lesser time of each side.
+    pub fn least(self, other: Times) -> Times {
+        Times {
+            rattle: self.rattle.min(other.rattle),
+            rust: self.rust.min(other.rust),
+            beside: self.beside.zip(other.beside).map(|(x, y)| x.min(y)),
+        }
+    }
 }
 
 /// How many libraries are linked.
@@ -159,4 +168,28 @@ pub fn measure(case: &Case, doors: &dyn Doors, rounds: u32) -> Result<Times, Str
         rust: least[LIBRARIES],
         beside: (LIBRARIES == 2).then(|| least[1]),
     })
+}
+
+#[cfg(test)]
+mod tests {
+    use super::*;
+
+    #[test]
+    fn each_side_has_its_own_least_time() {
+        let one = Times {
+            rattle: 1.0,
+            rust: 5.0,
+            beside: Some(3.0),
+        };
+        let two = Times {
+            rattle: 2.0,
+            rust: 4.0,
+            beside: Some(2.0),
+        };
+        let least = one.least(two);
+        assert_eq!(
+            (least.rattle, least.rust, least.beside),
+            (1.0, 4.0, Some(2.0))
+        );
+    }
 }

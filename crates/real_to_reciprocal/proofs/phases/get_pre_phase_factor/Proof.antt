@@ -1,5 +1,5 @@
 -- The pre-factor of an atom: its entry, the first vector of that, and the phase there.
-use mathlib.Core.Path.{_≡_, ap, _∙_}
+use mathlib.Core.Path.{_≡_, ap}
 use Prim.Native.Nat.{ℕ, _*_}
 use Rattle.phonon.specs.Number.{index, int}
 use Rattle.real_to_reciprocal.proofs.PhaseLaws.{anchor-at, pre-factor-at}
@@ -35,14 +35,11 @@ pre-phase-requires c κs =
 cis-requires : tie.Need-cis-requires
 cis-requires c κs = search needs
 
-factor-of-requires : tie.Need-factor-of-requires
-factor-of-requires c κs = search needs
-
 returns : tie.Need-returns
 returns c =
-    let start = c .before .before .before .before .before .before in
-    let a = anchor-at (start .args .np) (start .args .vectors .now) (start .args .multiplicity .now) (start .args .p2s .now) (start .args .i) (c .before .before .before .before .index-at .ensures) (c .before .before .before .index-at2 .ensures) in
-    pre-factor-at _ _ _ _ _ _ a (c .before .before .pre-phase .ensures) (c .factor-of .ensures ∙ c .before .cis .ensures)
+    let start = c .before .before .before .before .before in
+    let a = anchor-at (start .args .np) (start .args .vectors .now) (start .args .multiplicity .now) (start .args .p2s .now) (start .args .i) (c .before .before .before .index-at .ensures) (c .before .before .index-at2 .ensures) in
+    pre-factor-at _ _ _ _ _ _ a (c .before .pre-phase .ensures) (c .cis .ensures)
 
 pub get-pre-phase-factor-spec : {M : Type 1} → statement M
 get-pre-phase-factor-spec =
@@ -55,5 +52,4 @@ get-pre-phase-factor-spec =
     index-at-requires-2
     pre-phase-requires
     cis-requires
-    factor-of-requires
     returns)
