@@ -126,6 +126,19 @@ fn calls_in_batch(mut work: impl FnMut()) -> u32 {
     calls
 }
 
+const SIDES: usize = LIBRARIES + 1;
+
+/// The sides in another order from round to round, each in each place and behind each other one: a library that works just after another
+/// finds the tables in the cache.
+fn order(round: usize) -> [usize; SIDES] {
+    let step = if (round / SIDES).is_multiple_of(2) {
+        1
+    } else {
+        SIDES - 1
+    };
+    std::array::from_fn(|place| (round + place * step) % SIDES)
+}
+
 fn micros(time: Duration, calls: u32) -> f64 {
     time.as_secs_f64() * 1e6 / f64::from(calls)
 }
@@ -148,12 +161,10 @@ pub fn measure(case: &Case, doors: &dyn Doors, rounds: u32) -> Result<Times, Str
         calls_in_batch(&mut rust_work),
     );
     // The Rust comes behind the libraries.
-    let mut least = [f64::INFINITY; LIBRARIES + 1];
+    let mut least = [f64::INFINITY; SIDES];
     let triplets = case.triplets() as f64;
     for round in 0..rounds.max(1) as usize {
-        // Each side begins in its turn: the one behind another that has just read the same tables finds them in the cache.
-        for place in 0..=LIBRARIES {
-            let side = (round + place) % (LIBRARIES + 1);
+        for side in order(round) {
             let time = if side < LIBRARIES {
                 pick(side);
                 micros(batch(calls.0, &mut rattle_work), calls.0)
@@ -173,6 +184,19 @@ pub fn measure(case: &Case, doors: &dyn Doors, rounds: u32) -> Result<Times, Str
 #[cfg(test)]
 mod tests {
     use super::*;
+    use std::collections::HashSet;
+
+    #[test]
+    fn every_order_of_the_sides_has_its_turn() {
+        let count = 2 * SIDES;
+        let orders: HashSet<[usize; SIDES]> = (0..count).map(order).collect();
+        assert_eq!(orders.len(), (1..=SIDES).product::<usize>());
+        for order in orders {
+            let mut sides = order;
+            sides.sort_unstable();
+            assert_eq!(sides, std::array::from_fn(|side| side));
+        }
+    }
 
     #[test]
     fn each_side_has_its_own_least_time() {
