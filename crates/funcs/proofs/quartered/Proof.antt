@@ -1,5 +1,5 @@
 -- The floor of the quarter turns, and what is left, as the definition has them.
-use mathlib.Core.Path.{_≡_, refl, _∙_}
+use mathlib.Core.Path.{refl}
 use native.Mathlib.Omega.{arith}
 use lib.Dec.{lit≤}
 use lib.Ieee.{ofBits, ofInt, neg}

@@ -1,6 +1,6 @@
 -- The means over the vectors of a range: after i turns the sums over i vectors.
 use borrow.Author.Needs.{needs}
-use mathlib.Core.Path.{_≡_, refl, _∙_}
+use mathlib.Core.Path.{_≡_, refl}
 use Prim.Native.Nat.{_-_, _≤_}
 use Rattle.real_to_reciprocal.proofs.PhaseLaws.{phaseSum, sum-none, sum-turn, mean-of}
 use native.Mathlib.Omega.{arith}
