@@ -12,12 +12,12 @@ use lib.Ieee.Fits.{down-pos}
 use lib.Ieee.Order.{round-mono}
 use Rattle.phonon.specs.Number.{f0, f1, whole}
 use Rattle.phonon.specs.Exp.{expSeries, count, remainder, scaled, byRange, exp}
-use Rattle.funcs.specs.Occupation.{Unsigned}
-use Rattle.funcs.proofs.Compare.{nonneg}
+use Rattle.floats.specs.Sign.{Unsigned}
+use Rattle.floats.proofs.Compare.{nonneg}
+use Rattle.floats.proofs.Bounds.{Inside}
+use Rattle.floats.proofs.SignedBounds.{Plus, AtLeast, Lower}
 use Rattle.funcs.proofs.Range.{limit}
-use Rattle.funcs.proofs.Bounds.{Inside}
-use Rattle.funcs.proofs.Signs.{Plus, AtLeast, Lower}
-use Rattle.funcs.proofs.SeriesBounds.{series-plus, series-least, series-half}
+use Rattle.funcs.proofs.SeriesBounds.{series-most, series-least, series-half}
 use Rattle.funcs.proofs.Remainder.{remainder-bounds, unsigned-zero}
 
 -- p * 2 ^ k, for a p of at least 1 / L and L of at most 2 ^ k
@@ -35,13 +35,13 @@ by-zero : (r : Float) → Inside 1 1 r → Unsigned r → T (le f1 (mul binary64
 by-zero nan i p = absurd p
 by-zero (inf s) i p = absurd i
 by-zero (fin true m e) i p = absurd p
-by-zero (fin false m e) i p = let q = series-plus (fin false m e) i in times-power (expSeries (fin false m e)) (q .0) 1 0 (q .1) (series-least m e i) (lit≤ tt)
+by-zero (fin false m e) i p = times-power (expSeries (fin false m e)) 19 1 0 (series-most (fin false m e) i) (series-least m e i) (lit≤ tt)
 
 by-more : (r : Float) (k : ℕ) → Inside 1 1 r → Lower 1 2 r → T (le f1 (mul binary64 (expSeries r) (fin false 1 (pos (suc k)))))
 by-more nan k i p = absurd p
 by-more (inf s) k i p = absurd i
-by-more (fin true m e) k i p = let q = series-plus (fin true m e) i in times-power (expSeries (fin true m e)) (q .0) 2 (suc k) (q .1) (series-half m e p) (omega (arith, pow-pos k))
-by-more (fin false m e) k i p = let q = series-plus (fin false m e) i in times-power (expSeries (fin false m e)) (q .0) 1 (suc k) (q .1) (series-least m e i) (omega (arith, pow-pos (suc k)))
+by-more (fin true m e) k i p = times-power (expSeries (fin true m e)) 19 2 (suc k) (series-most (fin true m e) i) (series-half m e p) (omega (arith, pow-pos k))
+by-more (fin false m e) k i p = times-power (expSeries (fin false m e)) 19 1 (suc k) (series-most (fin false m e) i) (series-least m e i) (omega (arith, pow-pos (suc k)))
 
 by-count : (m : ℕ) (e : ℤ) (k : ℕ) → Inside 1 1 (remainder (fin false m e) (whole k)) × Lower 1 2 (remainder (fin false m e) (whole k))
     → T (le f1 (mul binary64 (expSeries (remainder (fin false m e) (whole k))) (fin false 1 (pos k))))
@@ -58,3 +58,15 @@ least-in m e false false h l t = absurd (true≢false (sym t))
 pub exp-least : (m : ℕ) (e : ℤ) → T (le f1 (exp (fin false m e)))
 unfolding exp
 exp-least m e = least-in m e _ _ refl refl (nonneg m e)
+
+exp-inf : T (le f1 (exp (inf false)))
+unfolding exp byRange le lt eq ofBits
+exp-inf = tt
+
+-- and so of any x without sign that is no NaN
+pub exp-least-of : (x : Float) → Unsigned x → T (le f1 (exp x))
+exp-least-of nan p = absurd p
+exp-least-of (inf true) p = absurd p
+exp-least-of (inf false) p = exp-inf
+exp-least-of (fin true m e) p = absurd p
+exp-least-of (fin false m e) p = exp-least m e

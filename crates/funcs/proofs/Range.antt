@@ -14,7 +14,7 @@ use lib.Ieee.Scale.{round-same}
 use lib.Ieee.Positive.{mul-mono, cross→le, positive}
 use Rattle.phonon.specs.Number.{f0}
 use Rattle.phonon.proofs.Order.{at-most}
-use Rattle.funcs.proofs.Compare.{negative-zero}
+use Rattle.floats.proofs.Compare.{negative-zero}
 
 -- x = m * 2 ^ e is at most n * 2 ^ d, which is below B: so x is below B
 below-bound : (m : ℕ) (e : ℤ) (n : ℕ) (d : ℤ) (B : ℕ) → n * up d < B * down d → m * up e * down d ≤ n * up d * down e → m * up e < B * down e

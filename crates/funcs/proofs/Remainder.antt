@@ -17,12 +17,13 @@ use lib.Ieee.Order.{round-mono}
 use lib.Ieee.Scale.{round-same}
 use Rattle.phonon.specs.Number.{f0, whole}
 use Rattle.phonon.specs.Exp.{count, remainder}
-use Rattle.funcs.specs.Occupation.{Unsigned}
+use Rattle.floats.specs.Sign.{Unsigned}
 use Rattle.phonon.proofs.Order.{at-most}
-use Rattle.funcs.proofs.Compare.{pick-no}
+use Rattle.floats.proofs.Compare.{pick-no}
 use Rattle.funcs.proofs.Range.{limit, log2e, exp-whole, limited}
-use Rattle.funcs.proofs.Bounds.{inside-sum, inside-difference, Inside, inside-positive, inside-round}
-use Rattle.funcs.proofs.Signs.{Lower, lower-inside, lower-difference, unsigned-round, Plus, plus-round}
+use Rattle.floats.proofs.Bounds.{inside-sum, inside-difference, Inside, inside-positive, inside-round}
+use Rattle.floats.proofs.Unsigned.{unsigned-round}
+use Rattle.floats.proofs.SignedBounds.{Lower, lower-inside, lower-difference, Plus, plus-round}
 
 -- ---- the whole part of a rounded number, between two others
 floor-half : (v w : Float) (j : ℕ) → HasValue w false (2 * j + 1) 2 → T (le v w) → toUnsigned 64 v ≤ j

@@ -5,23 +5,18 @@ use Prim.Native.Nat.{ℕ, zero, suc, _+_, _*_}
 use native.Mathlib.Nat.{zero-mul}
 use native.Mathlib.Omega.{arith}
 use lib.IntN.{ℤ}
-use borrow.Author.Tests.{le-ltb, ltb-true, ltb-false}
+use borrow.Author.Tests.{ltb-true, ltb-false}
 use lib.Ieee.{Float, nan, inf, fin, up, down, lt, ofBits}
 use Rattle.phonon.specs.Number.{f0}
 use Rattle.phonon.specs.Funcs.{boseEinstein}
 use Rattle.phonon.specs.Tests.{finite, signBit}
-use Rattle.funcs.specs.Occupation.{mark, marked, Unsigned}
+use Rattle.floats.specs.Sign.{Unsigned}
+use Rattle.floats.proofs.Unsigned.{sign-of}
+use Rattle.floats.proofs.Signs.{not-below}
+use Rattle.funcs.specs.Occupation.{mark, marked}
 use Rattle.funcs.proofs.Occupation.{occupation-unsigned}
 
--- a number without sign is not below zero; the mark is
-unsigned-not-below : (v : Float) → Unsigned v → lt v f0 ≡ false
-unfolding lt ofBits
-unsigned-not-below nan p = absurd p
-unsigned-not-below (inf true) p = absurd p
-unsigned-not-below (inf false) p = refl
-unsigned-not-below (fin true m e) p = absurd p
-unsigned-not-below (fin false m e) p = le-ltb (m * up e * 1) (0 * 1 * down e) (omega (arith, zero-mul (down e)))
-
+-- the mark is below zero
 mark-below : lt mark f0 ≡ true
 unfolding lt ofBits
 mark-below = refl
@@ -63,5 +58,5 @@ unfolding marked
 sentinel c f t ff z ft st = go (lt c f) refl
   where
     go : (b : Bool) → lt c f ≡ b → lt (marked t c f) f0 ≡ not (lt c f)
-    go true a = ap (λ (x : Bool). lt (cond x (boseEinstein f t) mark) f0) a ∙ unsigned-not-below (boseEinstein f t) (above c f t ff a z ft st) ∙ sym (ap not a)
+    go true a = ap (λ (x : Bool). lt (cond x (boseEinstein f t) mark) f0) a ∙ not-below (boseEinstein f t) (sign-of (boseEinstein f t) (above c f t ff a z ft st)) ∙ sym (ap not a)
     go false a = ap (λ (x : Bool). lt (cond x (boseEinstein f t) mark) f0) a ∙ mark-below ∙ sym (ap not a)

@@ -3,58 +3,27 @@ use mathlib.Core.Path.{_≡_, refl, ap, _∙_, sym, subst}
 use mathlib.Core.Bool.{Bool, true, false, _&&_}
 use mathlib.Core.List.{List, [], _∷_, foldl}
 use Prim.Native.Nat.{ℕ, suc, _+_, _-_, _*_, _^_, _≤_, _<_}
-use native.Mathlib.Nat.{le-trans, le-of-eq, lt-irrefl, mul-pos, mul-one, one-mul, mul-assoc, mul-comm, mul-right-comm, mul-le-mul, add-zero}
+use native.Mathlib.Nat.{le-trans, le-of-eq, mul-pos, mul-one, one-mul, mul-assoc, mul-right-comm, mul-le-mul, add-zero}
 use native.Mathlib.Omega.{arith}
 use lib.ListN.{length}
 use lib.IntN.{ℤ}
-use lib.Dec.{T, ltb, leb, eqb, leb→le, ltb→lt, lit<, lit≤}
-use borrow.Author.Tests.{le-ltb, ne-eqb}
-use lib.Ieee.{Float, nan, inf, fin, binary64, up, down, unlike, round, sum, add, mul, div, ofBits, ofInt}
+use lib.Dec.{T, ltb, leb, leb→le, ltb→lt, lit<, lit≤}
+use borrow.Author.Tests.{le-ltb}
+use lib.Ieee.{Float, nan, inf, fin, binary64, up, down, round, sum, add, mul, div, ofBits, ofInt}
 use lib.Ieee.Back.{round-whole}
 use lib.Ieee.Fits.{down-pos, up-pos, and-l, and-r}
 use Rattle.phonon.specs.Number.{f1}
 use Rattle.phonon.specs.Exp.{expSeries}
 use Rattle.funcs.proofs.Series.{rising, expDivisors, exp-fold}
-use Rattle.funcs.proofs.Compare.{pick-no}
-use Rattle.funcs.proofs.Bounds.{Inside, inside-round}
-use Rattle.funcs.proofs.Signs.{Plus, Minus, plus-round, minus-round, plus-mul, minus-mul, one-plus, one-minus, AtLeast, least-round}
+use Rattle.floats.proofs.Compare.{pick-no}
+use Rattle.floats.proofs.Bounds.{Inside, inside-round}
+use Rattle.floats.proofs.SignedBounds.{Plus, Minus, plus-wider, plus-mul, minus-mul, one-plus, one-minus, AtLeast, least-round}
+use Rattle.floats.proofs.Quotients.{big, quotient-bound, div-is, plus-div, minus-div}
 
--- a divisor of at least 1
-abbrev big : Float → Bool
-big nan = false
-big (inf s) = false
-big (fin true n d) = false
-big (fin false n d) = ltb 0 n && leb (down d) (n * up d)
-
+-- divisors of at least 1
 abbrev allBig : List Float → Bool
 allBig [] = true
 allBig (d ∷ ds) = big d && allBig ds
-
--- a quotient's magnitude X / c / (n * up d / down d), of an X / c of at most 1 and a divisor of at least 1
-quotient-bound : (X c n : ℕ) (d : ℤ) → X ≤ 1 * c → down d ≤ n * up d → X * down d ≤ 1 * (n * up d * c)
-quotient-bound X c n d h k = le-trans (mul-le-mul h k) (le-of-eq (ap (λ (x : ℕ). x * (n * up d)) (one-mul c) ∙ mul-comm c (n * up d) ∙ sym (one-mul (n * up d * c))))
-
-div-is : (s : Bool) (m : ℕ) (e : ℤ) (n : ℕ) (d : ℤ) → 0 < n → div binary64 (fin s m e) (fin false n d) ≡ round binary64 (unlike s false) (m * up e * down d) (n * up d * down e)
-unfolding div
-div-is s m e n d h = pick-no (eqb n 0) _ _ (ne-eqb n 0 (λ z. lt-irrefl 0 (omega arith)))
-
-plus-div : (m : ℕ) (e : ℤ) (y : Float) → m * up e ≤ 1 * down e → T (big y) → Plus 1 (div binary64 (fin false m e) y)
-plus-div m e nan h k = absurd k
-plus-div m e (inf s) h k = absurd k
-plus-div m e (fin true n d) h k = absurd k
-plus-div m e (fin false n d) h k =
-    let p : 0 < n = ltb→lt 0 n (and-l (ltb 0 n) (leb (down d) (n * up d)) k) in
-    let q : down d ≤ n * up d = leb→le _ _ (and-r (ltb 0 n) (leb (down d) (n * up d)) k) in
-    subst (Plus 1) (sym (div-is false m e n d p)) (plus-round (m * up e * down d) (n * up d * down e) 1 (mul-pos (mul-pos p (up-pos d)) (down-pos e)) (lit≤ tt) (quotient-bound (m * up e) (down e) n d h q))
-
-minus-div : (m : ℕ) (e : ℤ) (y : Float) → m * up e ≤ 1 * down e → T (big y) → Minus 1 (div binary64 (fin true m e) y)
-minus-div m e nan h k = absurd k
-minus-div m e (inf s) h k = absurd k
-minus-div m e (fin true n d) h k = absurd k
-minus-div m e (fin false n d) h k =
-    let p : 0 < n = ltb→lt 0 n (and-l (ltb 0 n) (leb (down d) (n * up d)) k) in
-    let q : down d ≤ n * up d = leb→le _ _ (and-r (ltb 0 n) (leb (down d) (n * up d)) k) in
-    subst (Minus 1) (sym (div-is true m e n d p)) (minus-round (m * up e * down d) (n * up d * down e) 1 (mul-pos (mul-pos p (up-pos d)) (down-pos e)) (lit≤ tt) (quotient-bound (m * up e) (down e) n d h q))
 
 plus-series : (m : ℕ) (e : ℤ) (ds : List Float) (p : Float) (B : ℕ) → m * up e ≤ 1 * down e → T (allBig ds) → B + length ds ≤ 2 ^ 53 → Plus B p → Plus (B + length ds) (foldl (rising (fin false m e)) p ds)
 plus-series m e [] p B h a b k = rw add-zero k
@@ -73,13 +42,13 @@ minus-series m e (d ∷ ds) p h a k =
     minus-series m e ds (add binary64 f1 (mul binary64 p (div binary64 (fin true m e) d))) h (and-r (big d) (allBig ds) a)
     (one-minus (mul binary64 p (div binary64 (fin true m e) d)) (minus-mul 1 1 p (div binary64 (fin true m e) d) (lit≤ tt) k q))
 
--- the series at an r of at most 1 is not negative
-pub series-plus : (r : Float) → Inside 1 1 r → (B : ℕ) × Plus B (expSeries r)
+-- the series at an r of at most 1 in size is not negative, and at most 19
+pub series-most : (r : Float) → Inside 1 1 r → Plus 19 (expSeries r)
 unfolding ofBits ofInt
-series-plus nan h = absurd h
-series-plus (inf s) h = absurd h
-series-plus (fin false m e) h = (19, subst (Plus 19) (sym (exp-fold (fin false m e))) (plus-series m e expDivisors f1 1 (le-trans (le-of-eq (sym (mul-one (m * up e)))) h) tt (lit≤ tt) (lit≤ tt)))
-series-plus (fin true m e) h = (1, subst (Plus 1) (sym (exp-fold (fin true m e))) (minus-series m e expDivisors f1 (le-trans (le-of-eq (sym (mul-one (m * up e)))) h) tt (lit≤ tt)))
+series-most nan h = absurd h
+series-most (inf s) h = absurd h
+series-most (fin false m e) h = subst (Plus 19) (sym (exp-fold (fin false m e))) (plus-series m e expDivisors f1 1 (le-trans (le-of-eq (sym (mul-one (m * up e)))) h) tt (lit≤ tt) (lit≤ tt))
+series-most (fin true m e) h = plus-wider 1 19 (expSeries (fin true m e)) (lit≤ tt) (subst (Plus 1) (sym (exp-fold (fin true m e))) (minus-series m e expDivisors f1 (le-trans (le-of-eq (sym (mul-one (m * up e)))) h) tt (lit≤ tt)))
 
 least-one-plus : (B : ℕ) (y : Float) → Plus B y → AtLeast 1 1 (add binary64 f1 y)
 unfolding add sum ofBits

@@ -21,7 +21,7 @@ use Rattle.common.proofs.Patterns.{toBits-value, rescaled}
 use Rattle.common.proofs.RootFloat.{written}
 use Rattle.phonon.specs.Number.{bits, f1, float, _⊕_, _⊖_}
 use Rattle.phonon.specs.Trig.{floor, quadrant}
-use Rattle.funcs.specs.Floor.{Within}
+use Rattle.floats.specs.Size.{Within}
 
 abbrev shift : ℕ
 shift = 6755399441055744

@@ -7,11 +7,11 @@ ghost use Prim.Native.Nat.{_<_, _≤_};
 ghost use lib.IntN.{pos};
 ghost use lib.ListN.{length};
 ghost use lib.Ieee.{fin};
-ghost use Rattle.phonon.specs.Number.{_⊕_, _⊖_, _⊗_, _⊘_, f1, at, float, whole};
+ghost use Rattle.phonon.specs.Number.{_⊖_, _⊗_, _⊘_, f1, at, float, whole};
 ghost use Rattle.phonon.specs.Exp as Exp;
 ghost use Rattle.phonon.specs.Trig as Trig;
 ghost use Rattle.phonon.specs.Funcs.{boseEinstein};
-ghost use Rattle.funcs.specs.Floor.{Within};
+ghost use Rattle.floats.specs.Size.{Within};
 ghost use Rattle.funcs.specs.Reducible.{reducible};
 
 // n, for n = 18 down to 1.
@@ -84,19 +84,16 @@ pub struct Two {
     pub two: f64,
 }
 
-// Of r and of s: p = 1, then p = 1 + p * (r / n) for n = 18 down to 1. Both divisions are one instruction, as long as this
-// stands by itself, which a function with several callers does. The divisors are lent: a constant array that is read in
-// a loop is laid out anew in every turn.
-fn exp_series_two(r: f64, s: f64, divisors: &[f64; 18]) -> Two
-    requires { ⌜ length (now divisors) ≡ 18 ⌝ }
-    ensures { λ p. ⌜ (p .one ≡ foldl (λ p d. f1 ⊕ p ⊗ (r ⊘ d)) f1 (now (divisors .entry)))
-        × (p .two ≡ foldl (λ p d. f1 ⊕ p ⊗ (s ⊘ d)) f1 (now (divisors .entry))) ⌝ }
+// Of r and of s: p = 1, then p = 1 + p * (r / n) for n = 18 down to 1. Both divisions are one instruction. The table is read in the
+// loop, which is laid out straight for it: then each divisor is a known number, and 16, 8, 4, 2 and 1 take a product for a division.
+fn exp_series_two(r: f64, s: f64) -> Two
+    ensures { λ p. ⌜ (p .one ≡ Exp.expSeries r) × (p .two ≡ Exp.expSeries s) ⌝ }
 {
     let mut p = 1.0;
     let mut q = 1.0;
     let mut i = 0usize;
     while i < 18 {
-        let d = divisors[i];
+        let d = EXP_DIVISORS[i];
         p = 1.0 + p * (r / d);
         q = 1.0 + q * (s / d);
         i += 1;
@@ -110,7 +107,7 @@ pub fn exp(x: f64) -> f64
 {
     if is_reducible(x) {
         let a = reduce(x);
-        let p = exp_series_two(a.remainder, a.remainder, &EXP_DIVISORS);
+        let p = exp_series_two(a.remainder, a.remainder);
         return p.one * a.power;
     }
     if x > 709.0 {
@@ -120,13 +117,13 @@ pub fn exp(x: f64) -> f64
 }
 
 // The exponentials of two numbers.
-fn exp_two(x: f64, y: f64) -> Two
+pub fn exp_two(x: f64, y: f64) -> Two
     ensures { λ r. ⌜ (r .one ≡ Exp.exp x) × (r .two ≡ Exp.exp y) ⌝ }
 {
     if is_reducible(x) & is_reducible(y) {
         let a = reduce(x);
         let b = reduce(y);
-        let p = exp_series_two(a.remainder, b.remainder, &EXP_DIVISORS);
+        let p = exp_series_two(a.remainder, b.remainder);
         return Two {
             one: p.one * a.power,
             two: p.two * b.power,

@@ -7,7 +7,6 @@ use lib.Ieee.{Float, ofBits, ofInt, div, lt, le}
 use Rattle.phonon.specs.Number.{f0}
 use Rattle.phonon.specs.Exp.{exp, byRange}
 use Rattle.funcs.proofs.Range.{limit}
-use Rattle.funcs.proofs.Series.{exp-fold}
 use Rattle.funcs.proofs.Reducible.{exp-parts, below}
 use Rattle.funcs.proofs.exp.Statement.{statement}
 use Rattle.funcs.proofs.exp.Tie as tie
@@ -29,10 +28,10 @@ exp-series-two-requires c κs = search needs
 returns : tie.Need-returns
 unfolding ofBits ofInt
 returns c =
-    let r = c .before .before .before .before .reduce .ensures in
-    let t = c .before .before .before .before .before in
+    let r = c .before .before .before .reduce .ensures in
+    let t = c .before .before .before .before in
     let p = c .before .before .exp-series-two .ensures in
-    exp-parts (t .before .before .args .x) _ _ (sym (t .before .is-reducible .ensures) ∙ t .if1 .taken) (p .0 ∙ sym (exp-fold _) ∙ rw (r .0) refl) (r .1)
+    exp-parts (t .before .before .args .x) _ _ (sym (t .before .is-reducible .ensures) ∙ t .if1 .taken) (p .0 ∙ rw (r .0) refl) (r .1)
 
 returns-2 : tie.Need-returns-2
 unfolding byRange div ofBits

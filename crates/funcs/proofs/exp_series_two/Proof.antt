@@ -5,19 +5,20 @@ use Prim.Native.Nat.{_≤_, _-_}
 use native.Mathlib.Omega.{arith}
 use borrow.Author.Needs.{needs}
 use lib.ListN.{drop}
+use lib.Ieee.{ofBits, ofInt}
 use Rattle.phonon.specs.Number.{f1}
-use Rattle.funcs.proofs.Series.{rising, fold-turn, fold-end}
+use Rattle.funcs.proofs.Series.{rising, expDivisors, exp-fold, fold-turn, fold-end}
 use Rattle.funcs.proofs.exp_series_two.Statement.{statement}
 use Rattle.funcs.proofs.exp_series_two.Tie as tie
 
 abbrev Inv-loop : tie.InvT-loop
-Inv-loop r s divisors p₀ q₀ i₀ p q i =
+Inv-loop r s p₀ q₀ i₀ p q i =
     (i ≤ 18)
-    × (foldl (rising r) p (drop i divisors) ≡ foldl (rising r) f1 divisors)
-    × (foldl (rising s) q (drop i divisors) ≡ foldl (rising s) f1 divisors)
+    × (foldl (rising r) p (drop i expDivisors) ≡ foldl (rising r) f1 expDivisors)
+    × (foldl (rising s) q (drop i expDivisors) ≡ foldl (rising s) f1 expDivisors)
 
 abbrev μ-loop : tie.MeasureT-loop
-μ-loop r s divisors p₀ q₀ i₀ p q i = 18 - i
+μ-loop r s p₀ q₀ i₀ p q i = 18 - i
 
 loop-holds : tie.Need-loop-holds Inv-loop μ-loop
 loop-holds c = (omega arith, refl, refl)
@@ -25,8 +26,8 @@ loop-holds c = (omega arith, refl, refl)
 mul-d : tie.Need-mul-d Inv-loop μ-loop
 mul-d c = search needs
 
-element-copy-out-d : tie.Need-element-copy-out-d Inv-loop μ-loop
-element-copy-out-d c = search needs
+array-read-d : tie.Need-array-read-d Inv-loop μ-loop
+array-read-d c = search needs
 
 add-i : tie.Need-add-i Inv-loop μ-loop
 add-i c = search needs
@@ -35,22 +36,23 @@ loop-less : tie.Need-loop-less Inv-loop μ-loop
 loop-less c = search needs
 
 loop-again : tie.Need-loop-again Inv-loop μ-loop
+unfolding ofBits ofInt
 loop-again c =
-    let l = c .before .before .loop in
-    let a = c .before .before .before in (
+    let l = c .before .loop in
+    let a = c .before .before .args in (
       omega arith,
-      fold-turn (rising (a .args .r)) (l .p) (a .args .divisors .now) (l .i) (omega (arith, a .pre, c .before .loop-test .taken)) ∙ l .inv .1,
-      fold-turn (rising (a .args .s)) (l .q) (a .args .divisors .now) (l .i) (omega (arith, a .pre, c .before .loop-test .taken)) ∙ l .inv .2,
+      fold-turn (rising (a .r)) (l .p) expDivisors (l .i) (omega (arith, c .loop-test .taken)) ∙ l .inv .1,
+      fold-turn (rising (a .s)) (l .q) expDivisors (l .i) (omega (arith, c .loop-test .taken)) ∙ l .inv .2,
     )
 
 returns : tie.Need-returns Inv-loop μ-loop
 returns c =
     let l = c .before .loop in
-    let a = c .before .before in (
-      sym (fold-end (rising (a .args .r)) (l .p) (a .args .divisors .now) (l .i) (omega (arith, a .pre))) ∙ l .inv .1,
-      sym (fold-end (rising (a .args .s)) (l .q) (a .args .divisors .now) (l .i) (omega (arith, a .pre))) ∙ l .inv .2,
+    let a = c .before .before .args in (
+      sym (fold-end (rising (a .r)) (l .p) expDivisors (l .i) (omega arith)) ∙ l .inv .1 ∙ sym (exp-fold (a .r)),
+      sym (fold-end (rising (a .s)) (l .q) expDivisors (l .i) (omega arith)) ∙ l .inv .2 ∙ sym (exp-fold (a .s)),
     )
 
 pub exp-series-two-spec : {M : Type 1} → statement M
 exp-series-two-spec =
-    tie.close (tie.spec Inv-loop μ-loop loop-holds mul-d element-copy-out-d add-i loop-less loop-again returns)
+    tie.close (tie.spec Inv-loop μ-loop loop-holds mul-d array-read-d add-i loop-less loop-again returns)

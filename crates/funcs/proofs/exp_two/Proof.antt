@@ -1,8 +1,7 @@
 -- Where both numbers are in the range, each exponential comes from its parts; elsewhere each is worked alone.
-use mathlib.Core.Path.{refl, sym, _∙_}
+use mathlib.Core.Path.{refl, _∙_}
 use borrow.Author.Needs.{needs}
 use lib.Ieee.{ofBits, ofInt}
-use Rattle.funcs.proofs.Series.{exp-fold}
 use Rattle.funcs.proofs.Reducible.{both, exp-parts}
 use Rattle.funcs.proofs.exp_two.Statement.{statement}
 use Rattle.funcs.proofs.exp_two.Tie as tie
@@ -26,13 +25,13 @@ returns : tie.Need-returns
 unfolding ofBits ofInt
 returns c =
     let s = c .before .before .before .before in
-    let t = s .before .before .before .before in
+    let t = s .before .before .before in
     let h = both _ _ (t .before .before .is-reducible .ensures) (t .before .is-reducible2 .ensures) (t .if1 .taken) in
-    let a = s .before .before .before .reduce .ensures in
-    let b = s .before .before .reduce2 .ensures in
+    let a = s .before .before .reduce .ensures in
+    let b = s .before .reduce2 .ensures in
     let p = s .exp-series-two .ensures in (
-      exp-parts _ _ _ (h .0) (p .0 ∙ sym (exp-fold _) ∙ rw (a .0) refl) (a .1),
-      exp-parts _ _ _ (h .1) (p .1 ∙ sym (exp-fold _) ∙ rw (b .0) refl) (b .1),
+      exp-parts _ _ _ (h .0) (p .0 ∙ rw (a .0) refl) (a .1),
+      exp-parts _ _ _ (h .1) (p .1 ∙ rw (b .0) refl) (b .1),
     )
 
 exp-requires : tie.Need-exp-requires

@@ -5,7 +5,8 @@ use lib.Dec.{lit≤}
 use lib.Ieee.{ofBits, ofInt, neg}
 use Rattle.phonon.specs.Trig.{inDomain, floor, quarters}
 use Rattle.funcs.proofs.Floor.{quadrant-small}
-use Rattle.funcs.proofs.Bounds.{tested, within-mul, within-add}
+use Rattle.floats.proofs.Bounds.{within-mul, within-add}
+use Rattle.funcs.proofs.Quarters.{tested}
 use Rattle.funcs.proofs.quartered.Statement.{statement}
 use Rattle.funcs.proofs.quartered.Tie as tie
 

@@ -6,15 +6,14 @@ use native.Mathlib.Nat.{le-trans, le-of-eq, mul-pos, mul-one, mul-assoc, mul-com
 use native.Mathlib.Omega.{arith}
 use lib.IntN.{pos}
 use lib.Dec.{T, ltb, lit<}
-use lib.Ieee.{Float, nan, inf, fin, binary64, up, down, unlike, lt, le, eq, neg, odd, units, round, sum, add, mul, ofBits, size, nearest}
+use lib.Ieee.{Float, nan, inf, fin, binary64, up, down, unlike, lt, le, eq, neg, odd, units, round, sum, add, mul, size, nearest}
 use lib.Ieee.Exact.{HasValue}
 use lib.Ieee.Back.{round-whole}
-use lib.Ieee.Fits.{down-pos, and-l, and-r}
+use lib.Ieee.Fits.{down-pos}
 use lib.Ieee.Order.{round-mono}
-use Rattle.phonon.specs.Number.{bits}
-use Rattle.funcs.specs.Floor.{Within}
-use Rattle.phonon.proofs.Order.{at-most, at-most′}
-use Rattle.funcs.proofs.Compare.{negative-zero}
+use Rattle.floats.specs.Size.{Within}
+use Rattle.phonon.proofs.Order.{at-most}
+use Rattle.floats.proofs.Compare.{negative-zero}
 
 -- ---- rounding is the same on both sides of zero
 neg-odd : (d q k l : ℕ) → odd d true q k l ≡ neg (odd d false q k l)
@@ -125,15 +124,3 @@ within-add A B (fin s m e) (fin t n d) b h k =
     let q : n * up d * down e ≤ B * (down e * down d) = le-trans (mul-le-mul-right (down e) k) (le-of-eq (mul-assoc B (down d) (down e) ∙ ap (λ (y : ℕ). B * y) (mul-comm (down d) (down e)))) in
     within-of (A + B) (sum binary64 s (m * up e * down d) t (n * up d * down e) (down e * down d))
     (inside-sum s t (m * up e * down d) (n * up d * down e) (down e * down d) (A + B) 1 (mul-pos (down-pos e) (down-pos d)) (lit< tt) (round-whole binary64 false (A + B) b) (omega (arith, add-mul A B (down e * down d))))
-
--- ---- what the test of the domain says of x
-pub tested : (x : Float) → (le (bits 0xC130_0000_0000_0000) x && le x (bits 0x4130_0000_0000_0000)) ≡ true → Within 1048576 x
-unfolding le lt eq ofBits
-tested x h = go x (and-l (le (bits 0xC130_0000_0000_0000) x) (le x (bits 0x4130_0000_0000_0000)) (subst T (sym h) tt)) (and-r (le (bits 0xC130_0000_0000_0000) x) (le x (bits 0x4130_0000_0000_0000)) (subst T (sym h) tt))
-  where
-    go : (x : Float) → T (le (bits 0xC130_0000_0000_0000) x) → T (le x (bits 0x4130_0000_0000_0000)) → Within 1048576 x
-    go nan lo hi = absurd lo
-    go (inf true) lo hi = absurd lo
-    go (inf false) lo hi = absurd hi
-    go (fin true m e) lo hi = omega (arith, at-most′ (1 * 1048576 * down e) (m * up e * 1) true lo)
-    go (fin false m e) lo hi = omega (arith, at-most (m * up e * 1) (1 * 1048576 * down e) true hi)

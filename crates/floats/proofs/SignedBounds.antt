@@ -1,44 +1,23 @@
--- The sign of a rounded result, and bounds with a sign. Assumes nothing.
+-- Bounds with a sign: from 0 to K, from - K to 0, at least K / L, not below - K / L. Assumes nothing.
 use mathlib.Core.Path.{ap, _∙_, sym, subst}
 use mathlib.Core.Bool.{Bool, true, false, cond, true≢false}
-use Prim.Native.Nat.{ℕ, zero, suc, _+_, _-_, _*_, _/_, _%_, _^_, _≤_, _<_, compare}
+use Prim.Native.Nat.{ℕ, _+_, _-_, _*_, _^_, _≤_, _<_}
 use native.Mathlib.Nat.{le-trans, le-of-eq, mul-pos, mul-one, one-mul, mul-right-comm, mul-le-mul, mul-le-mul-right, le-of-mul-le-mul-right, mul-mul-mul-comm, add-mul}
 use native.Mathlib.Omega.{arith}
 use lib.IntN.{ℤ}
 use lib.Dec.{T, ltb, lit<, lit≤}
 use borrow.Author.Tests.{le-ltb}
-use lib.Ieee.{Float, nan, inf, fin, binary64, up, down, lt, le, eq, neg, odd, units, round, sum, add, mul, ofBits, size, nearest}
+use lib.Ieee.{Float, nan, inf, fin, binary64, up, down, lt, le, eq, neg, round, sum, add, mul, ofBits}
 use lib.Ieee.Exact.{HasValue}
 use lib.Ieee.Back.{round-whole}
 use lib.Ieee.Fits.{down-pos}
 use lib.Ieee.Order.{round-mono}
 use Rattle.phonon.specs.Number.{f1}
-use Rattle.funcs.specs.Occupation.{Unsigned}
+use Rattle.floats.specs.Sign.{Unsigned}
 use Rattle.phonon.proofs.Order.{at-most}
-use Rattle.funcs.proofs.Compare.{pick-no}
-use Rattle.funcs.proofs.Bounds.{neg-round, Inside, inside-positive, inside-round}
-
--- ---- no NaN and no sign
-pub unsigned-cond : (b : Bool) (x y : Float) → Unsigned x → Unsigned y → Unsigned (cond b x y)
-unsigned-cond true x y p q = p
-unsigned-cond false x y p q = q
-
-unsigned-odd : (n q k l : ℕ) → Unsigned (odd n false q k l)
-unfolding odd
-unsigned-odd n zero k l = tt
-unsigned-odd n (suc q) k l = tt
-
-unsigned-units : (q k : ℕ) → Unsigned (units binary64 false q k)
-unfolding units
-unsigned-units q k = unsigned-cond (ltb (q * 2 ^ k) (2 ^ 2098)) (odd 54 false q k 1074) (inf false) (unsigned-odd 54 q k 1074) tt
-
-pub unsigned-round : (a c : ℕ) → Unsigned (round binary64 false a c)
-unfolding round
-unsigned-round a c =
-    let n = a * 2 ^ 1074 in
-    let k = size (n / c) - 53 in
-    let u = c * 2 ^ k in
-    unsigned-units (nearest (n / u) (compare (n % u * 2) u)) k
+use Rattle.floats.proofs.Compare.{pick-no}
+use Rattle.floats.proofs.Unsigned.{unsigned-round}
+use Rattle.floats.proofs.Bounds.{neg-round, Inside, inside-positive, inside-round}
 
 -- ---- not negative, of at most K; and negative, of magnitude at most K
 abbrev pub Plus : ℕ → Float → Type 0
@@ -61,6 +40,12 @@ plus-of K (fin false m e) u h = le-trans (le-of-eq (sym (mul-one (m * up e)))) h
 
 pub plus-round : (a c K : ℕ) → 0 < c → K ≤ 2 ^ 53 → a ≤ K * c → Plus K (round binary64 false a c)
 plus-round a c K p b h = plus-of K (round binary64 false a c) (unsigned-round a c) (inside-positive a c K 1 p (lit< tt) (round-whole binary64 false K b) (le-trans (le-of-eq (mul-one a)) h))
+
+pub plus-wider : (A B : ℕ) (v : Float) → A ≤ B → Plus A v → Plus B v
+plus-wider A B nan h k = k
+plus-wider A B (inf s) h k = k
+plus-wider A B (fin true m e) h k = k
+plus-wider A B (fin false m e) h k = le-trans k (mul-le-mul-right (down e) h)
 
 minus-neg : (K : ℕ) (v : Float) → Plus K v → Minus K (neg v)
 unfolding neg

@@ -1,0 +1,13 @@
+-- The laws. Compare: what comparisons say of magnitudes. Unsigned, Signs, Numbers: no NaN and no sign; a NaN or no sign; no NaN. Bounds, SignedBounds,
+-- Quotients, Doubled: the size of rounded results. Least: results not smaller than an operand. Integers, WholeLaws: whole numbers that are not rounded.
+pub mod Compare
+pub mod Unsigned
+pub mod Signs
+pub mod Bounds
+pub mod SignedBounds
+pub mod Quotients
+pub mod Numbers
+pub mod Doubled
+pub mod Least
+pub mod Integers
+pub mod WholeLaws
