@@ -50,3 +50,20 @@ beyond-by false y e = refl
 pub beyond-told : (m : Measures) (form : Form) → measuredOf m form ≡ Beyond → measuresOk m ≡ false
 unfolding measuredOf
 beyond-told m form e = beyond-by (measuresOk m) (sizesOf m form) e
+
+-- ---- no product of the measures wraps, by bounds that are wider than document 01's
+
+pub record Room (m : Measures) : Type 0 where
+  pub some : 1 ≤ 3 * m .atoms
+  pub bands : 3 * m .atoms ≤ 3000
+  pub frequencies : m .grid * (3 * m .atoms) ≤ 1000000 * 3000
+  pub row : m .first * (3 * m .atoms) ≤ 3000 * 3000
+  pub slots : m .first * (3 * m .atoms) * (3 * m .atoms) ≤ 3000 * 3000 * 3000
+
+pub room : (m : Measures) → measuresOk m ≡ true → Room m
+room m e =
+    let h = measured-facts m e in
+    let b : 3 * m .atoms ≤ 3000 = omega (arith, h .atoms-most) in
+    let f : m .first ≤ 3000 = omega (arith, h .first-most) in
+    let g : m .grid ≤ 1000000 = omega (arith, h .grid-most) in
+    record { some = omega (arith, h .atoms); bands = b; frequencies = mul-le-mul g b; row = mul-le-mul f b; slots = mul-le-mul (mul-le-mul f b) b }

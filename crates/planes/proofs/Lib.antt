@@ -10,3 +10,4 @@ pub mod ReadLaws
 pub mod WorkLaws
 pub mod LegOrders
 pub mod ClearLaws
+pub mod FilledLaws

@@ -2,8 +2,8 @@
 use Prim.Native.Nat.{_-_}
 use mathlib.Core.Path.{_≡_, refl}
 use lib.ListN.{length, getD}
+use Rattle.planes.proofs.FilledLaws.{Filled, filled-none, filled-more, filled-whole}
 use Rattle.carton.specs.Words.{byteOf, bytesOf}
-use Rattle.carton.proofs.Laws.{Filled, filled-none, filled-more, filled-whole}
 use native.Mathlib.Omega.{arith}
 use borrow.Author.Needs.{needs}
 use Rattle.carton.proofs.words.read_bytes.Statement.{statement}

@@ -4,8 +4,8 @@ use mir.ValLaws.{toZ-ofZ}
 use Prim.Native.Nat.{_-_}
 use mathlib.Core.Path.{_≡_, refl, _∙_}
 use lib.ListN.{length, getD}
+use Rattle.planes.proofs.FilledLaws.{Filled, filled-none, filled-more, filled-whole}
 use Rattle.carton.specs.Words.{intOf, intsOf}
-use Rattle.carton.proofs.Laws.{Filled, filled-none, filled-more, filled-whole}
 use native.Mathlib.Omega.{arith}
 use borrow.Author.Needs.{needs}
 use Rattle.carton.proofs.words.read_ints.Statement.{statement}

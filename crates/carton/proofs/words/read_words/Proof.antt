@@ -2,8 +2,8 @@
 use Prim.Native.Nat.{_-_, _*_, _/_}
 use mathlib.Core.Path.{_≡_}
 use lib.ListN.{length}
+use Rattle.planes.proofs.FilledLaws.{Filled, filled-none, filled-more, filled-whole}
 use Rattle.carton.specs.Words.{wordAt, wordsOf}
-use Rattle.carton.proofs.Laws.{Filled, filled-none, filled-more, filled-whole}
 use native.Mathlib.Omega.{arith}
 use borrow.Author.Needs.{needs}
 use Rattle.carton.proofs.words.read_words.Statement.{statement}

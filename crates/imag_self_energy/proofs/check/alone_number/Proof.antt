@@ -1,6 +1,4 @@
 -- The first of three tests that fails.
-use Prim.Native.Nat.{_*_, _≤_}
-use native.Mathlib.Nat.{mul-le-mul}
 use native.Mathlib.Omega.{arith}
 use mathlib.Core.Path.{_≡_, refl, sym, _∙_}
 use mathlib.Core.Bool.{true, _&&_}
@@ -8,31 +6,15 @@ use borrow.Author.Needs.{needs}
 use borrow.Author.Tests.{not-true, not-false}
 use lib.ListN.{length}
 use Rattle.phonon.specs.Tests.{allTrue, allTrueAfter}
-use Rattle.phonon.specs.declared.Measures.{Measures}
-use Rattle.phonon.specs.Refusal.{measuresOk, aloneLengths, aloneFinite}
+use Rattle.phonon.specs.Refusal.{aloneLengths, aloneFinite}
 use Rattle.phonon.proofs.Lowest.{pass, stop, none-left}
-use Rattle.phonon.proofs.Accepted.{measured-facts}
 use Rattle.checks.proofs.Laws.{told-good, told-bad}
+use Rattle.checks.proofs.MeasureLaws.{room}
 use Rattle.imag_self_energy.proofs.check.alone_number.Statement.{statement}
 use Rattle.imag_self_energy.proofs.check.alone_number.Tie as tie
 
 abbrev start : tie.Else1 → tie.Start
 start c = c .before .before .before .before .before .before .before
-
--- no product of the measures wraps, by bounds that are wider than document 01's
-record Room (m : Measures) : Type 0 where
-  bands : 3 * m .atoms ≤ 3000
-  frequencies : m .grid * (3 * m .atoms) ≤ 1000000 * 3000
-  row : m .first * (3 * m .atoms) ≤ 3000 * 3000
-  slots : m .first * (3 * m .atoms) * (3 * m .atoms) ≤ 3000 * 3000 * 3000
-
-room : (m : Measures) → measuresOk m ≡ true → Room m
-room m e =
-    let h = measured-facts m e in
-    let b : 3 * m .atoms ≤ 3000 = omega (arith, h .atoms-most) in
-    let f : m .first ≤ 3000 = omega (arith, h .first-most) in
-    let g : m .grid ≤ 1000000 = omega (arith, h .grid-most) in
-    record { bands = b; frequencies = mul-le-mul g b; row = mul-le-mul f b; slots = mul-le-mul (mul-le-mul f b) b }
 
 sized : (c : tie.Else1) → allTrue (aloneLengths (start c .args .m) (start c .args .n) (length (start c .args .frequencies .now)) (length (start c .args .flags .now)) (length (start c .args .strengths .now))) ≡ true
 unfolding aloneLengths allTrue allTrueAfter
