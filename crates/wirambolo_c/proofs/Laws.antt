@@ -7,7 +7,9 @@ use lib.Ieee.{Float}
 use Rattle.phonon.specs.declared.Answer.{Answer}
 use Rattle.phonon.specs.Sets.{TotalsSet, JoinedSet}
 use Rattle.phonon.specs.Doors.{numberOf, StrengthsOutcome, TotalsOutcome, JoinedOutcome, totalsOutcome, joinedOutcome}
-use Rattle.wirambolo_c.specs.Foreign.{Strengths, Totals, Joined, strengthsAnswer, totalsAnswer, joinedAnswer}
+use Rattle.integration_weights.specs.Sets.{WeightsSet}
+use Rattle.integration_weights.specs.Doors.{WeightsOutcome, weightsOutcome}
+use Rattle.wirambolo_c.specs.Foreign.{Strengths, Totals, Joined, WeightsAnswer, strengthsAnswer, totalsAnswer, joinedAnswer, weightsAnswer}
 
 pub strengths-unread : {b : Bool} (o : StrengthsOutcome) (v w : List Float) → b ≡ false
     → _≡_ {A = Strengths} (record { answer = 255; strengths = v; work = w }) (strengthsAnswer b o v w)
@@ -42,3 +44,14 @@ pub joined-answered : (b : Bool) (s t : JoinedSet) {a : Answer} {v u w : List Fl
     → _≡_ {A = Joined} (record { answer = n; strengths = v; totals = u; work = w }) (joinedAnswer b s)
 unfolding joinedAnswer
 joined-answered b s t e h k p = rw (e, p) (ap (λ o. record { answer = numberOf (o .answer); strengths = o .strengths; totals = o .totals; work = o .work }) (h ∙ ap joinedOutcome k))
+
+pub weights-unread : (b : Bool) (s : WeightsSet) → b ≡ false
+    → _≡_ {A = WeightsAnswer} (record { answer = 255; first = s .first; second = s .second; flags = s .flags }) (weightsAnswer b s)
+unfolding weightsAnswer
+weights-unread b s e = rw e refl
+
+pub weights-answered : (b : Bool) (s : WeightsSet) {a : Answer} {u v : List Float} {w : List ℕ} {n : ℕ} → b ≡ true
+    → _≡_ {A = WeightsOutcome} (record { answer = a; first = u; second = v; flags = w }) (weightsOutcome s) → n ≡ numberOf a
+    → _≡_ {A = WeightsAnswer} (record { answer = n; first = u; second = v; flags = w }) (weightsAnswer b s)
+unfolding weightsAnswer
+weights-answered b s e h p = rw (e, p) (ap (λ o. record { answer = numberOf (o .answer); first = o .first; second = o .second; flags = o .flags }) h)

@@ -13,9 +13,13 @@ use Rattle.phonon.specs.declared.Symmetry.the-variants.{Off, Symmetrized}
 use Rattle.phonon.specs.declared.Weights.{Weights}
 use Rattle.phonon.specs.declared.Weights.the-variants.{PerSlot, AtFrequencyPoint}
 use Rattle.phonon.specs.Sets.{TripletSet, ListSet, TotalsSet, JoinedSet}
+use Rattle.integration_weights.specs.declared.Shape.{Shape}
+use Rattle.integration_weights.specs.declared.Shape.the-variants.{Gaussian, Lorentzian, Box}
+use Rattle.integration_weights.specs.Sets.{WeightsSet}
+use Rattle.integration_weights.specs.Doors.{weightsOutcome}
 use Rattle.phonon.specs.Doors.{numberOf, StrengthsOutcome, tripletOutcome, listOutcome, totalsOutcome, joinedOutcome}
 
--- ---- choices: 0 and 1, in the order of the enums. No other number is known.
+-- ---- choices: 0 and 1, of a shape 0 to 2, in the order of the enums. No other number is known.
 
 unfoldable pub known : ℕ → Bool
 known x = leb x 1
@@ -31,6 +35,13 @@ symmetryOf x = cond (eqb x 0) Off Symmetrized
 
 unfoldable pub weightsOf : ℕ → Weights
 weightsOf x = cond (eqb x 0) PerSlot AtFrequencyPoint
+
+-- a shape, with its width
+unfoldable pub shapeKnown : ℕ → Bool
+shapeKnown x = leb x 2
+
+unfoldable pub shapeOf : ℕ → Float → Shape
+shapeOf x w = cond (eqb x 0) (Gaussian w) (cond (eqb x 1) (Lorentzian w) (Box w))
 
 -- the three choices of the tables
 unfoldable pub choicesKnown : ℕ → ℕ → ℕ → Bool
@@ -53,6 +64,12 @@ pub record Joined : Type 0 where
   pub totals : List Float
   pub work : List Float
 
+pub record WeightsAnswer : Type 0 where
+  pub answer : ℕ
+  pub first : List Float
+  pub second : List Float
+  pub flags : List ℕ
+
 -- from the outcome of a door of the strengths, with the strengths and the work buffer as they were
 unfoldable pub strengthsAnswer : Bool → StrengthsOutcome → List Float → List Float → Strengths
 strengthsAnswer true o strengths work = record { answer = numberOf (o .answer); strengths = o .strengths; work = o .work }
@@ -71,3 +88,7 @@ totalsAnswer false s = record { answer = 255; totals = s .totals }
 unfoldable pub joinedAnswer : Bool → JoinedSet → Joined
 joinedAnswer true s = record { answer = numberOf (joinedOutcome s .answer); strengths = joinedOutcome s .strengths; totals = joinedOutcome s .totals; work = joinedOutcome s .work }
 joinedAnswer false s = record { answer = 255; strengths = s .strengths; totals = s .totals; work = s .work }
+
+unfoldable pub weightsAnswer : Bool → WeightsSet → WeightsAnswer
+weightsAnswer true s = record { answer = numberOf (weightsOutcome s .answer); first = weightsOutcome s .first; second = weightsOutcome s .second; flags = weightsOutcome s .flags }
+weightsAnswer false s = record { answer = 255; first = s .first; second = s .second; flags = s .flags }

@@ -1,4 +1,5 @@
 // The doors for programs in C and Rust: choices as numbers, arrays of fixed length by reference, one number as the answer.
+use integration_weights::Shape;
 use phonon::Anchoring;
 use phonon::Bath;
 use phonon::Form;
@@ -10,7 +11,7 @@ use phonon::Weights;
 use refusals::number_of;
 ghost use mathlib.Core.Path.{_≡_};
 ghost use Rattle.wirambolo_c.specs.Foreign as Foreign;
-ghost use Rattle.wirambolo_c.specs.Foreign.{Strengths, Totals, Joined};
+ghost use Rattle.wirambolo_c.specs.Foreign.{Strengths, Totals, Joined, WeightsAnswer};
 
 // ---- choices
 
@@ -54,6 +55,25 @@ fn weights_of(x: u8) -> Weights
         return Weights::PerSlot;
     }
     Weights::AtFrequencyPoint
+}
+
+fn is_shape_known(x: u8) -> bool
+    ensures { λ r. ⌜ r ≡ Foreign.shapeKnown x ⌝ }
+{
+    x <= 2
+}
+
+// A shape, with its width.
+fn shape_of(x: u8, width: f64) -> Shape
+    ensures { λ r. ⌜ r ≡ Foreign.shapeOf x width ⌝ }
+{
+    if x == 0 {
+        return Shape::Gaussian(width);
+    }
+    if x == 1 {
+        return Shape::Lorentzian(width);
+    }
+    Shape::Box(width)
 }
 
 // Whether the three choices of the tables are known.
@@ -443,5 +463,53 @@ pub extern "C" fn wirambolo_joined_at_triplet(
         strengths,
         totals,
         work,
+    ))
+}
+
+// The integration weights of one triplet, from a shape.
+#[no_mangle]
+pub extern "C" fn wirambolo_integration_weights_at_triplet(
+    atoms: usize,
+    first: usize,
+    grid: usize,
+    shape: u8,
+    width: f64,
+    triplet: &[i64; 3],
+    bands: &[i64],
+    frequencies: &[f64],
+    first_weights: &mut [f64],
+    second_weights: &mut [f64],
+    flags: &mut [u8],
+) -> u8
+    ensures { λ r. ⌜ _≡_ {A = WeightsAnswer}
+        (record { answer = r; first = now («first_weights» .exit); second = now («second_weights» .exit); flags = now (flags .exit) })
+        (Foreign.weightsAnswer (Foreign.shapeKnown shape) (record {
+          measures = record { atoms = atoms; first = first; grid = grid };
+          shape = Foreign.shapeOf shape width;
+          triplet = now (triplet .entry);
+          bands = now (bands .entry);
+          frequencies = now (frequencies .entry);
+          first = now («first_weights» .entry);
+          second = now («second_weights» .entry);
+          flags = now (flags .entry);
+        })) ⌝ }
+{
+    if !is_shape_known(shape) {
+        return 255;
+    }
+    let m = TotalsMeasures {
+        atoms: atoms,
+        first: first,
+        grid: grid,
+    };
+    number_of(integration_weights::integration_weights_at_triplet(
+        m,
+        shape_of(shape, width),
+        *triplet,
+        bands,
+        frequencies,
+        first_weights,
+        second_weights,
+        flags,
     ))
 }
