@@ -1,5 +1,5 @@
-//! The four doors. Each answers with the number of its refusal and then leaves everything as found, or with 0,
-//! and then the patched source has worked the set.
+//! The five doors. Each answers with the number of its refusal and then leaves everything as found, or with 0,
+//! and then the patched source has worked the set, or for the weights of a shape `weights.rs`.
 
 use crate::common::Cmplx;
 use crate::imag_self_energy::{
@@ -7,8 +7,9 @@ use crate::imag_self_energy::{
 };
 use crate::interaction::{get_interaction, get_interaction_at_triplet, InteractionScratch};
 use crate::real_to_reciprocal::AtomTriplets;
-use crate::refusals::{self, Lent};
+use crate::refusals::{self, Lent, LentWeights};
 use crate::sets::*;
+use crate::weights;
 use std::ops::Range;
 
 /// Strengths of one triplet.
@@ -95,6 +96,25 @@ pub fn joined(set: &JoinedSet, strengths: &mut [f64], totals: &mut [f64], work: 
         };
         sum.work(strengths, totals);
         clear_work(&tables.measures, work);
+    }
+    refusal
+}
+
+/// Both weights and the flag of every slot, from a shape.
+pub fn integration_weights(
+    set: &WeightsSet,
+    first: &mut [f64],
+    second: &mut [f64],
+    flags: &mut [u8],
+) -> u8 {
+    let lent = LentWeights {
+        first: first.len(),
+        second: second.len(),
+        flags: flags.len(),
+    };
+    let refusal = refusals::integration_weights(set, &lent);
+    if refusal == 0 {
+        weights::work(set, first, second, flags);
     }
     refusal
 }

@@ -1,5 +1,5 @@
-//! The oracle: phonors itself, with document 01's exponential, sine and cosine in place of the machine's, and the
-//! doors' refusals of document 01 around it.
+//! The oracle: phonors itself, with document 01's exponential, sine and cosine in place of the machine's, what document 02 adds in
+//! plain Rust, and the doors' refusals of both documents around them.
 
 pub mod carton;
 pub mod cell_u;
@@ -7,6 +7,7 @@ pub mod doors;
 pub mod refusals;
 pub mod sets;
 pub mod standins;
+pub mod weights;
 
 #[cfg(test)]
 mod random;

@@ -1,5 +1,5 @@
-//! Refusals 1 to 9, written from document 01. Each condition is asked only where no lower one holds, so the first
-//! that holds is the answer; 0 means accepted. Nothing is written here.
+//! Refusals 1 to 9, written from document 01, and 13, from document 02. Each condition is asked only where no lower one holds, so
+//! the first that holds is the answer; 0 means accepted. Nothing is written here.
 
 use crate::doors::{matrix, rows};
 use crate::interaction::compute_q_vecs;
@@ -32,6 +32,13 @@ pub const LEG_ORDERS: [[usize; 3]; 6] = [
 pub struct Lent {
     pub strengths: usize,
     pub work: usize,
+}
+
+/// Lengths of the slices that the weights of a shape are written to.
+pub struct LentWeights {
+    pub first: usize,
+    pub second: usize,
+    pub flags: usize,
 }
 
 /// The one-triplet door.
@@ -117,6 +124,23 @@ pub fn joined(set: &JoinedSet, totals: usize, lent: &Lent) -> u8 {
     lowest(&conditions)
 }
 
+/// The weights of a shape. Of the numbers above 4 this door has 13 alone, which comes after all others.
+pub fn integration_weights(set: &WeightsSet, lent: &LentWeights) -> u8 {
+    let m = &set.measures;
+    let conditions: [&dyn Fn() -> bool; 4] = [
+        &|| totals_measures_beyond(m),
+        &|| weights_mislong(set, lent),
+        &|| {
+            triplets_beyond(&set.triplet, m.grid) || indices_beyond(&set.bands, band_count(m.atoms))
+        },
+        &|| not_finite(&set.frequencies) || !set.shape.width().is_finite(),
+    ];
+    match lowest(&conditions) {
+        0 if set.shape.width() <= 0.0 => 13,
+        number => number,
+    }
+}
+
 /// Number of the first condition that holds, counted from 1; 0 if none does. Later ones are not asked.
 fn lowest(conditions: &[&dyn Fn() -> bool]) -> u8 {
     conditions
@@ -183,6 +207,16 @@ fn totals_mislong(set: &TotalsSet, totals: usize) -> bool {
         || mislong(&set.first_weights, entries)
         || mislong(&set.second_weights, entries)
         || totals as u128 != u128::from(m.first)
+}
+
+fn weights_mislong(set: &WeightsSet, lent: &LentWeights) -> bool {
+    let m = &set.measures;
+    let slots = slot_count(m.atoms, m.first);
+    mislong(&set.bands, m.first.into())
+        || mislong(&set.frequencies, frequency_count(m.atoms, m.grid))
+        || [lent.first, lent.second, lent.flags]
+            .iter()
+            .any(|&length| length as u128 != slots)
 }
 
 // Number 3.

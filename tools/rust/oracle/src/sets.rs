@@ -1,4 +1,4 @@
-//! What the doors are handed, as owned tables of any length, and the lengths that document 01 asks of them.
+//! What the doors are handed, as owned tables of any length, and the lengths that documents 01 and 02 ask of them.
 //! B = 3·P bands; slot (b, j, k) is number (b·B + j)·B + k.
 
 /// P, S, F, G and the number of vectors.
@@ -11,7 +11,7 @@ pub struct Measures {
     pub vectors: u64,
 }
 
-/// P, F and G, all that totals alone is handed.
+/// P, F and G, all that totals alone and the weights of a shape are handed.
 #[derive(Clone, Copy, Debug, PartialEq)]
 pub struct TotalsMeasures {
     pub atoms: u64,
@@ -55,6 +55,22 @@ pub enum Weighting {
 pub struct Bath {
     pub weight: i64,
     pub temperature: f64,
+}
+
+/// What stands for the delta function of energy conservation: a Gaussian of a width, a Lorentzian or a box of a half-width.
+#[derive(Clone, Copy, Debug, PartialEq)]
+pub enum Shape {
+    Gaussian(f64),
+    Lorentzian(f64),
+    Box(f64),
+}
+
+impl Shape {
+    pub fn width(self) -> f64 {
+        match self {
+            Shape::Gaussian(w) | Shape::Lorentzian(w) | Shape::Box(w) => w,
+        }
+    }
 }
 
 /// What the one-triplet, list and joined doors read, but for the triplets and the weights.
@@ -104,6 +120,16 @@ pub struct TotalsSet {
     pub flags: Vec<u8>,
     pub first_weights: Vec<f64>,
     pub second_weights: Vec<f64>,
+}
+
+/// What the weights of a shape are worked from.
+#[derive(Clone, Debug)]
+pub struct WeightsSet {
+    pub measures: TotalsMeasures,
+    pub shape: Shape,
+    pub triplet: [i64; 3],
+    pub bands: Vec<i64>,
+    pub frequencies: Vec<f64>,
 }
 
 /// What the joined door reads, and a carton holds.

@@ -1,11 +1,11 @@
 //! What the Rust gives for the closed cases of crates/closed_cases/specs/ClosedCases.antt: the same made-up tables by the
-//! same rules, worked by phonors itself. Each line is a case and the bits of its answer.
+//! same rules, worked by phonors itself; and for those of document 02's weights. Each line is a case and the bits of its answer.
 
 use oracle::common::Cmplx;
 use oracle::real_to_reciprocal::{real_to_reciprocal, AtomTriplets};
 use oracle::reciprocal_to_normal::{reciprocal_to_normal_squared, R2NScratch};
 use oracle::sets::*;
-use oracle::{cell_u, doors};
+use oracle::{cell_u, doors, weights};
 
 /// Number n of a table of whole numbers from −c to m − 1 − c.
 fn made(a: i64, m: i64, c: i64, n: usize) -> i64 {
@@ -381,6 +381,82 @@ fn phase(symmetry: Symmetry) -> u8 {
     doors::one_triplet(&set, [0, 1, 2], &mut [-1.0; 27], &mut [-1.0; 205])
 }
 
+/// The least number above zero.
+const LEAST: f64 = f64::from_bits(1);
+
+/// Single values of the shapes, at their edges and where something overflows or underflows.
+fn shapes() {
+    use Shape::*;
+    let cases = [
+        (Gaussian(0.25), 0.0),
+        (Gaussian(0.25), 0.5),
+        (Gaussian(0.25), -0.5),
+        (Gaussian(0.25), 2.0),
+        (Gaussian(0.25), 2.0f64.next_up()),
+        (Lorentzian(0.5), 1.5),
+        (Lorentzian(0.5), 0.0),
+        (Lorentzian(LEAST), 0.0),
+        (Box(0.25), -0.25),
+        (Box(0.25), -0.25f64.next_up()),
+        (Box(0.25), 0.0),
+        (Box(f64::MAX), 0.0),
+        (Box(LEAST), 0.0),
+        (Gaussian(1e-300), 7e-300),
+        (Gaussian(LEAST), 0.0),
+        (Lorentzian(1e-200), 1.0),
+        (Lorentzian(1e160), 0.0),
+    ];
+    for (shape, d) in cases {
+        let name = format!("shape {shape:?} at {d:?} = {:016x}:", d.to_bits());
+        show(&name, &[weights::shape_at(shape, d)]);
+    }
+}
+
+/// First weight, second weight and flag of single slots.
+fn slots() {
+    use Shape::*;
+    let cases = [
+        (Lorentzian(0.5), [4.0, 1.0, 2.0]),
+        (Gaussian(0.25), [4.0, 1.5, 2.25]),
+        (Gaussian(0.25), [4.0, 1.0, 3.0]),
+        (Box(LEAST), [0.0, 0.0, 0.0]),
+        (Lorentzian(1e-200), [1.0, 2.0, 4.0]),
+        (Lorentzian(1e-300), [3.0, 2.0, 4.0]),
+    ];
+    for (shape, [f0, f1, f2]) in cases {
+        let (first, second, flag) = weights::slot(shape, f0, f1, f2);
+        show(
+            &format!("slot {shape:?} of {f0:?} {f1:?} {f2:?}, flag {flag}:"),
+            &[first, second],
+        );
+    }
+}
+
+/// The weights of 1 atom with two first bands at three grid points.
+fn weights1(shape: Shape) {
+    let set = WeightsSet {
+        measures: TotalsMeasures {
+            atoms: 1,
+            first: 2,
+            grid: 3,
+        },
+        shape,
+        triplet: [2, 0, 1],
+        bands: vec![2, 0],
+        frequencies: vec![1.0, 2.0, 4.0, 1.5, 2.5, 3.5, 3.0, 4.5, 5.0],
+    };
+    let mut first = vec![-1.0; 18];
+    let mut second = vec![-1.0; 18];
+    let mut flags = vec![9; 18];
+    assert_eq!(
+        doors::integration_weights(&set, &mut first, &mut second, &mut flags),
+        0
+    );
+    show(&format!("weights {shape:?} first"), &first);
+    show(&format!("weights {shape:?} second"), &second);
+    println!("weights {shape:?} flags {flags:?}");
+}
+
 fn main() {
     reciprocal("reciprocal plain full", false, true);
     reciprocal("reciprocal averaged full", true, true);
@@ -412,4 +488,13 @@ fn main() {
         phase(Symmetry::Off),
         phase(Symmetry::Symmetrized)
     );
+    shapes();
+    slots();
+    for shape in [
+        Shape::Gaussian(0.5),
+        Shape::Lorentzian(0.5),
+        Shape::Box(0.75),
+    ] {
+        weights1(shape);
+    }
 }

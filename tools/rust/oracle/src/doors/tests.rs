@@ -127,3 +127,89 @@ fn frequency_point_shares_flags_and_weights() {
         );
     }
 }
+
+fn weights_set(set: &JoinedSet, shape: Shape) -> WeightsSet {
+    let t = &set.strengths;
+    WeightsSet {
+        measures: TotalsMeasures {
+            atoms: t.measures.atoms,
+            first: t.measures.first,
+            grid: t.measures.grid,
+        },
+        shape,
+        triplet: set.triplet,
+        bands: t.bands.clone(),
+        frequencies: t.frequencies.clone(),
+    }
+}
+
+#[test]
+fn weights_stand_at_the_numbers_of_their_slots() {
+    let mut random = Random(0x5897_89E6_0C4B_3D17);
+    for _ in 0..200 {
+        let width = 0.01 + random.unit().abs();
+        for shape in [Shape::Gaussian, Shape::Lorentzian, Shape::Box] {
+            let set = weights_set(&random.joined_set(), shape(width));
+            let slots = slot_count(set.measures.atoms, set.measures.first) as usize;
+            let (mut first, mut second) = (vec![-1.0; slots], vec![-1.0; slots]);
+            let mut flags = vec![9; slots];
+            assert_eq!(
+                integration_weights(&set, &mut first, &mut second, &mut flags),
+                0
+            );
+            let bands = 3 * set.measures.atoms as usize;
+            let frequency =
+                |leg: usize, band: usize| set.frequencies[set.triplet[leg] as usize * bands + band];
+            for place in 0..slots {
+                let (b, j, k) = (
+                    place / (bands * bands),
+                    place / bands % bands,
+                    place % bands,
+                );
+                let f0 = frequency(0, set.bands[b] as usize);
+                let (one, two, flag) =
+                    weights::slot(set.shape, f0, frequency(1, j), frequency(2, k));
+                assert_eq!(first[place].to_bits(), one.to_bits());
+                assert_eq!(second[place].to_bits(), two.to_bits());
+                assert_eq!(flags[place], flag);
+            }
+        }
+    }
+}
+
+/// Both weights of a flagged slot are zero, so that the totals are the same with the flags and without.
+#[test]
+fn flagged_slots_have_no_part_in_the_totals() {
+    let mut random = Random(0xC2B2_AE3D_27D4_EB4F);
+    let mut flagged = 0;
+    for _ in 0..200 {
+        let mut set = random.joined_set();
+        let first = set.strengths.measures.first as usize;
+        let slots = set.first_weights.len();
+        let strengths: Vec<f64> = (0..slots).map(|_| random.unit().abs()).collect();
+        for shape in [Shape::Gaussian(0.02), Shape::Box(0.1)] {
+            let handed = weights_set(&set, shape);
+            let flags = &mut set.strengths.flags;
+            assert_eq!(
+                integration_weights(
+                    &handed,
+                    &mut set.first_weights,
+                    &mut set.second_weights,
+                    flags
+                ),
+                0
+            );
+            flagged += flags.iter().filter(|&&flag| flag == 1).count();
+            let (mut with, mut without) = (vec![-1.0; first], vec![-1.0; first]);
+            let totals = totals_set(&set, strengths.clone());
+            assert_eq!(totals_alone(&totals, &mut with), 0);
+            let unflagged = TotalsSet {
+                flags: vec![0; slots],
+                ..totals
+            };
+            assert_eq!(totals_alone(&unflagged, &mut without), 0);
+            assert_eq!(bits(&with), bits(&without));
+        }
+    }
+    assert!(flagged > 1_000, "{flagged}");
+}
