@@ -8,7 +8,7 @@ use std::{env, fs};
 #[path = "../../oracle/phonors.rs"]
 mod phonors;
 
-const ORACLE: [&str; 4] = ["doors", "refusals", "standins", "carton"];
+const ORACLE: [&str; 5] = ["doors", "refusals", "standins", "weights", "carton"];
 
 struct Change {
     file: String,
@@ -40,7 +40,8 @@ fn main() {
         table += &format!(
             "Fault {{ name: {:?}, doors: {:?}, one_triplet: {name}::doors::one_triplet, \
              list_of_triplets: {name}::doors::list_of_triplets, totals_alone: {name}::doors::totals_alone, \
-             joined: {name}::doors::joined, key: {name}::carton::key }},\n",
+             joined: {name}::doors::joined, integration_weights: {name}::doors::integration_weights, \
+             key: {name}::carton::key }},\n",
             fault.name, fault.doors
         );
     }

@@ -8,10 +8,17 @@ pub enum Door {
     List,
     Totals,
     Joined,
+    Weights,
 }
 
 impl Door {
-    pub const ALL: [Door; 4] = [Door::Triplet, Door::List, Door::Totals, Door::Joined];
+    pub const ALL: [Door; 5] = [
+        Door::Triplet,
+        Door::List,
+        Door::Totals,
+        Door::Joined,
+        Door::Weights,
+    ];
 
     pub fn name(self) -> &'static str {
         match self {
@@ -19,6 +26,7 @@ impl Door {
             Door::List => "list",
             Door::Totals => "totals",
             Door::Joined => "joined",
+            Door::Weights => "weights",
         }
     }
 
@@ -26,17 +34,27 @@ impl Door {
         Door::ALL.into_iter().find(|door| door.name() == name)
     }
 
-    /// The refusals that document 01 gives this door.
+    /// The refusals that documents 01 and 02 give this door.
     pub fn numbers(self) -> &'static [u8] {
         match self {
             Door::Triplet | Door::List => &[1, 2, 3, 4, 5, 6, 7, 9],
             Door::Totals => &[1, 2, 3, 4, 7, 8],
             Door::Joined => &[1, 2, 3, 4, 5, 6, 7, 8, 9],
+            Door::Weights => &[1, 2, 3, 4, 13],
         }
     }
 
     pub fn has_strengths_tables(self) -> bool {
+        matches!(self, Door::Triplet | Door::List | Door::Joined)
+    }
+
+    pub fn has_bands(self) -> bool {
         self != Door::Totals
+    }
+
+    /// Whether flags are read.
+    pub fn has_flags(self) -> bool {
+        self != Door::Weights
     }
 
     pub fn has_bath(self) -> bool {
@@ -59,13 +77,15 @@ pub enum Kind {
     Far,
     Limits,
     Edge,
+    /// Of the weights alone.
+    Touching,
     OneFault,
     TwoFaults,
     Foreign,
 }
 
 impl Kind {
-    pub const ALL: [Kind; 12] = [
+    pub const ALL: [Kind; 13] = [
         Kind::Usual,
         Kind::Coarse,
         Kind::Wide,
@@ -75,6 +95,7 @@ impl Kind {
         Kind::Far,
         Kind::Limits,
         Kind::Edge,
+        Kind::Touching,
         Kind::OneFault,
         Kind::TwoFaults,
         Kind::Foreign,
@@ -91,6 +112,7 @@ impl Kind {
             Kind::Far => "phases near the ends",
             Kind::Limits => "measures at their limits",
             Kind::Edge => "phases at the ends",
+            Kind::Touching => "a slot at the shape's edge",
             Kind::OneFault => "one fault",
             Kind::TwoFaults => "two faults",
             Kind::Foreign => "choice unknown",
@@ -114,8 +136,8 @@ pub enum Limit {
     LargestFull,
     /// G and the number of vectors at once.
     GridAndVectors,
-    /// P = 8, F = 24 and G = 65,536, in totals alone.
-    LargestTotals,
+    /// P = 8, F = 24 and G = 65,536, in totals alone and in the weights.
+    LargestGrid,
     /// Vectors that are subnormal or nearly so.
     LeastVectors,
 }
@@ -131,7 +153,7 @@ impl Limit {
         Limit::LargestCell,
         Limit::LargestFull,
         Limit::GridAndVectors,
-        Limit::LargestTotals,
+        Limit::LargestGrid,
         Limit::LeastVectors,
     ];
 
@@ -146,7 +168,7 @@ impl Limit {
             Limit::LargestCell => "P = 8, S = 64, F = 24",
             Limit::LargestFull => "S = 64, full form",
             Limit::GridAndVectors => "G and vectors 65,536",
-            Limit::LargestTotals => "P = 8, F = 24, G = 65,536",
+            Limit::LargestGrid => "P = 8, F = 24, G = 65,536",
             Limit::LeastVectors => "subnormal vectors",
         }
     }
@@ -159,6 +181,7 @@ pub enum Foreign {
     Form(u8),
     Symmetry(u8),
     Weighting(u8),
+    Shape(u8),
 }
 
 /// Buffers lent for writing; a door that is lent none of a kind has an empty one.
@@ -167,10 +190,13 @@ pub struct Buffers {
     pub strengths: Vec<f64>,
     pub totals: Vec<f64>,
     pub work: Vec<f64>,
+    pub first_weights: Vec<f64>,
+    pub second_weights: Vec<f64>,
+    pub flags: Vec<u8>,
 }
 
 /// Tables that a door is not handed are empty. Totals alone takes P, F, G, the cutoff, frequencies, flags, triplet,
-/// bath and weights from `set`.
+/// bath and weights from `set`, and the weights of a shape P, F, G, bands, frequencies and triplet.
 #[derive(Clone, Debug)]
 pub struct Call {
     pub door: Door,
@@ -184,19 +210,26 @@ pub struct Call {
     pub weighting: Weighting,
     /// Strengths as totals alone reads them.
     pub read_strengths: Vec<f64>,
+    /// The shape whose weights are asked for.
+    pub shape: Shape,
     pub foreign: Option<Foreign>,
     pub before: Buffers,
 }
 
 impl Call {
+    fn totals_measures(&self) -> TotalsMeasures {
+        let m = &self.set.strengths.measures;
+        TotalsMeasures {
+            atoms: m.atoms,
+            first: m.first,
+            grid: m.grid,
+        }
+    }
+
     pub fn totals_set(&self) -> TotalsSet {
         let tables = &self.set.strengths;
         TotalsSet {
-            measures: TotalsMeasures {
-                atoms: tables.measures.atoms,
-                first: tables.measures.first,
-                grid: tables.measures.grid,
-            },
+            measures: self.totals_measures(),
             cutoff: tables.settings.cutoff,
             weighting: self.weighting,
             bath: self.set.bath,
@@ -206,6 +239,17 @@ impl Call {
             flags: tables.flags.clone(),
             first_weights: self.set.first_weights.clone(),
             second_weights: self.set.second_weights.clone(),
+        }
+    }
+
+    pub fn weights_set(&self) -> WeightsSet {
+        let tables = &self.set.strengths;
+        WeightsSet {
+            measures: self.totals_measures(),
+            shape: self.shape,
+            triplet: self.set.triplet,
+            bands: tables.bands.clone(),
+            frequencies: tables.frequencies.clone(),
         }
     }
 

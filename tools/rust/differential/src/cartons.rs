@@ -4,7 +4,7 @@ use crate::call::{Call, Door, Kind};
 use crate::damage;
 use crate::phases;
 use crate::random::Random;
-use crate::tables::{self, Shape};
+use crate::tables::{self, Outline};
 use oracle::carton::{seal, table_words, words_of, BLOCK, BLOCK_LIMIT, BLOCK_WORDS, HEADING_WORDS};
 use oracle::sets::*;
 
@@ -108,11 +108,11 @@ fn words_needed(measures: &Measures, form: Form) -> u128 {
 
 /// A good call of the joined door that fits 96 blocks; now and then four atoms, whose work buffer is too long.
 fn fitting_call(random: &mut Random) -> Call {
-    let mut shape = Shape::random(random, Door::Joined);
-    let m = &mut shape.measures;
+    let mut outline = Outline::random(random, Door::Joined);
+    let m = &mut outline.measures;
     m.atoms = 1 + random.weighted(&[60, 26, 10, 4]) as u64;
     m.first = m.first.min(3 * m.atoms);
-    while words_needed(m, shape.form) > MOST_WORDS {
+    while words_needed(m, outline.form) > MOST_WORDS {
         m.supercell = (m.supercell / 2).max(1);
         m.grid = (m.grid / 2).max(1);
         m.vectors = (m.vectors / 2).max(1);
@@ -130,7 +130,7 @@ fn fitting_call(random: &mut Random) -> Call {
         Kind::Far,
         Kind::Edge,
     ]);
-    let mut call = tables::call(random, Door::Joined, kind, &shape);
+    let mut call = tables::call(random, Door::Joined, kind, &outline);
     phases::make(random, &mut call, (kind == Kind::Far).then_some(1.0));
     if kind == Kind::Edge {
         phases::put_at_the_end(random, &mut call);

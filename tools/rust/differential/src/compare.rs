@@ -9,6 +9,7 @@ use std::panic::{catch_unwind, set_hook, take_hook, AssertUnwindSafe};
 /// Numbers before and behind each lent buffer that no door may touch.
 const GUARD: usize = 16;
 const GUARD_BITS: u64 = 0x7FF4_5A5A_A5A5_0F0F;
+const GUARD_BYTE: u8 = 0x5A;
 
 thread_local! {
     /// True while this thread is inside `tried`.
@@ -52,50 +53,65 @@ pub fn work(doors: &dyn Doors, call: &Call) -> Result<Outcome, String> {
         &call.before.strengths,
         &call.before.totals,
         &call.before.work,
+        &call.before.first_weights,
+        &call.before.second_weights,
     ]
-    .map(|before| guarded(before));
+    .map(|before| guarded(before, f64::from_bits(GUARD_BITS)));
+    let mut flags = guarded(&call.before.flags, GUARD_BYTE);
     let answer = tried(|| {
-        let [strengths, totals, work] = &mut rooms;
+        let [strengths, totals, work, first_weights, second_weights] = &mut rooms;
         let lent = Lent {
             strengths: inside(strengths),
             totals: inside(totals),
             work: inside(work),
+            first_weights: inside(first_weights),
+            second_weights: inside(second_weights),
+            flags: inside(&mut flags),
         };
         doors.answer(&handed, lent)
     })?;
     if let Some(table) = call.changed_table(&handed) {
         return Err(format!("{table}, lent for reading, changed"));
     }
-    if !rooms.iter().all(|room| guards_stand(room)) {
+    if !rooms.iter().all(|room| number_guards_stand(room)) || !byte_guards_stand(&flags) {
         return Err("wrote outside a buffer".to_string());
     }
-    let [strengths, totals, work] = rooms.map(|room| room[GUARD..room.len() - GUARD].to_vec());
+    let [strengths, totals, work, first_weights, second_weights] =
+        rooms.map(|mut room| inside(&mut room).to_vec());
     Ok(Outcome {
         answer,
         after: Buffers {
             strengths,
             totals,
             work,
+            first_weights,
+            second_weights,
+            flags: inside(&mut flags).to_vec(),
         },
     })
 }
 
-fn guarded(before: &[f64]) -> Vec<f64> {
-    let guard = [f64::from_bits(GUARD_BITS); GUARD];
+fn guarded<T: Copy>(before: &[T], guard: T) -> Vec<T> {
+    let guard = [guard; GUARD];
     [&guard[..], before, &guard[..]].concat()
 }
 
-fn inside(room: &mut [f64]) -> &mut [f64] {
+fn inside<T>(room: &mut [T]) -> &mut [T] {
     let end = room.len() - GUARD;
     &mut room[GUARD..end]
 }
 
-fn guards_stand(room: &[f64]) -> bool {
+fn guards_stand<T: Copy>(room: &[T], stands: impl Fn(T) -> bool) -> bool {
     let end = room.len() - GUARD;
-    room[..GUARD]
-        .iter()
-        .chain(&room[end..])
-        .all(|x| x.to_bits() == GUARD_BITS)
+    room[..GUARD].iter().chain(&room[end..]).all(|&x| stands(x))
+}
+
+fn number_guards_stand(room: &[f64]) -> bool {
+    guards_stand(room, |x| x.to_bits() == GUARD_BITS)
+}
+
+fn byte_guards_stand(room: &[u8]) -> bool {
+    guards_stand(room, |x| x == GUARD_BYTE)
 }
 
 /// The oracle's outcome of the call; an error is the oracle's own and no fault of a door.
@@ -103,7 +119,7 @@ pub fn expected(call: &Call) -> Result<Outcome, String> {
     work(&ORACLE, call).map_err(|what| format!("the oracle {what}"))
 }
 
-/// Which entries an accepted call writes: strengths unflagged or symmetrized, all totals, the first W of work.
+/// Which entries an accepted call writes: strengths unflagged or symmetrized, the first W of work, of the others all.
 struct Written<'a> {
     call: &'a Call,
     accepted: bool,
@@ -115,7 +131,7 @@ impl Written<'_> {
         self.accepted && (set.symmetry == Symmetry::Symmetrized || set.flags[place] == 0)
     }
 
-    fn total(&self, _place: usize) -> bool {
+    fn other(&self, _place: usize) -> bool {
         self.accepted
     }
 
@@ -163,8 +179,33 @@ pub fn difference(call: &Call, oracle: &Outcome, door: &Result<Outcome, String>)
     first_difference("strengths", &a.strengths, &b.strengths, |place| {
         written.strength(place)
     })
-    .or_else(|| first_difference("totals", &a.totals, &b.totals, |place| written.total(place)))
+    .or_else(|| first_difference("totals", &a.totals, &b.totals, |place| written.other(place)))
     .or_else(|| first_difference("work", &a.work, &b.work, |place| written.work(place)))
+    .or_else(|| {
+        first_difference(
+            "first weights",
+            &a.first_weights,
+            &b.first_weights,
+            |place| written.other(place),
+        )
+    })
+    .or_else(|| {
+        first_difference(
+            "second weights",
+            &a.second_weights,
+            &b.second_weights,
+            |place| written.other(place),
+        )
+    })
+    .or_else(|| first_other_flag(&a.flags, &b.flags))
+}
+
+fn first_other_flag(oracle: &[u8], door: &[u8]) -> Option<String> {
+    let place = oracle.iter().zip(door).position(|(a, b)| a != b)?;
+    Some(format!(
+        "flags differ first at {place}: oracle {}, door {}",
+        oracle[place], door[place]
+    ))
 }
 
 /// The oracle's own outcome against the rule of what is written; for the self-test.
@@ -182,8 +223,15 @@ pub fn untouched_stand(call: &Call, outcome: &Outcome) -> bool {
     };
     let (a, b) = (&call.before, &outcome.after);
     stand(&a.strengths, &b.strengths, &|place| written.strength(place))
-        && stand(&a.totals, &b.totals, &|place| written.total(place))
+        && stand(&a.totals, &b.totals, &|place| written.other(place))
         && stand(&a.work, &b.work, &|place| written.work(place))
+        && stand(&a.first_weights, &b.first_weights, &|place| {
+            written.other(place)
+        })
+        && stand(&a.second_weights, &b.second_weights, &|place| {
+            written.other(place)
+        })
+        && (written.accepted || a.flags == b.flags)
 }
 
 #[cfg(test)]
@@ -203,13 +251,23 @@ mod tests {
     #[test]
     fn guards_show_a_write_beside_the_buffer() {
         for before in [vec![], vec![1.0, f64::NAN]] {
-            let room = guarded(&before);
-            assert!(guards_stand(&room));
+            let room = guarded(&before, f64::from_bits(GUARD_BITS));
+            assert!(number_guards_stand(&room));
             assert_eq!(inside(&mut room.clone()).len(), before.len());
             for place in [0, GUARD - 1, GUARD + before.len(), room.len() - 1] {
                 let mut touched = room.clone();
                 touched[place] = 0.0;
-                assert!(!guards_stand(&touched));
+                assert!(!number_guards_stand(&touched));
+            }
+        }
+        for before in [vec![], vec![1, GUARD_BYTE]] {
+            let room = guarded(&before, GUARD_BYTE);
+            assert!(byte_guards_stand(&room));
+            assert_eq!(inside(&mut room.clone()), before);
+            for place in [0, GUARD - 1, GUARD + before.len(), room.len() - 1] {
+                let mut touched = room.clone();
+                touched[place] = 0;
+                assert!(!byte_guards_stand(&touched));
             }
         }
     }

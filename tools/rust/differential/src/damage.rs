@@ -20,6 +20,7 @@ pub fn plant(random: &mut Random, call: &mut Call, numbers: &[u8]) {
             6 => mass(random, call),
             7 => cutoff(random, call),
             8 => bath(random, call),
+            13 => width(random, call),
             _ => phases::break_phase(random, call).to_string(),
         };
         call.planted.push((number, place));
@@ -37,6 +38,8 @@ pub fn make_foreign(random: &mut Random, call: &mut Call) {
     let number = random.pick(&[2, 3, 127, 128, 254, 255]);
     call.foreign = Some(match call.door {
         Door::Totals => Foreign::Weighting(number),
+        // There are three shapes.
+        Door::Weights => Foreign::Shape(number.max(3)),
         _ => random.pick(&[
             Foreign::Anchoring(number),
             Foreign::Form(number),
@@ -61,7 +64,7 @@ enum Measure {
 fn measures_of(door: Door) -> &'static [Measure] {
     use Measure::*;
     match door {
-        Door::Totals => &[Atoms, First, Grid],
+        Door::Totals | Door::Weights => &[Atoms, First, Grid],
         Door::List => &[Atoms, Supercell, First, Grid, Vectors, List],
         _ => &[Atoms, Supercell, First, Grid, Vectors],
     }
@@ -186,7 +189,12 @@ fn fit(call: &mut Call) {
         Weighting::AtFrequencyPoint => pair_count(t.measures.atoms),
     };
     resize(&mut t.frequencies, l.frequencies, 1.0);
-    resize(&mut t.flags, entries, 0);
+    if call.door.has_flags() {
+        resize(&mut t.flags, entries, 0);
+    }
+    if call.door.has_bands() {
+        resize(&mut t.bands, l.bands, 0);
+    }
     if call.door.has_strengths_tables() {
         resize(&mut t.addresses, l.addresses, 0);
         resize(&mut t.vectors, l.vectors, 0.0);
@@ -194,15 +202,20 @@ fn fit(call: &mut Call) {
         resize(&mut t.p2s, l.p2s, 0);
         resize(&mut t.s2p, l.s2p, 0);
         resize(&mut t.masses, l.masses, 1.0);
-        resize(&mut t.bands, l.bands, 0);
         resize(&mut t.eigenvectors, l.eigenvectors, 1.0);
         resize(&mut t.all_shortest, l.all_shortest, 0);
         resize(&mut t.nonzero, l.nonzero, 1);
         resize(&mut t.force_constants, l.force_constants, 1.0);
         resize(&mut call.before.strengths, slots, -1.0);
         resize(&mut call.before.work, work_size(&t.measures), -1.0);
-    } else {
+    }
+    if call.door == Door::Totals {
         resize(&mut call.read_strengths, l.slots, 1.0);
+    }
+    if call.door == Door::Weights {
+        resize(&mut call.before.first_weights, slots, -1.0);
+        resize(&mut call.before.second_weights, slots, -1.0);
+        resize(&mut call.before.flags, slots, 1);
     }
     if call.door == Door::List {
         resize(&mut call.triplets, 3 * u128::from(call.list), 0);
@@ -279,6 +292,13 @@ fn length(random: &mut Random, call: &mut Call) -> String {
         ]
         .concat(),
         Door::Triplet | Door::List => [&LENGTHS[..], &["triplets", "form"]].concat(),
+        Door::Weights => vec![
+            "bands",
+            "frequencies",
+            "first weights",
+            "second weights",
+            "flags",
+        ],
     };
     // A second wrong length goes to another table, lest it mend the first.
     let mut name = random.pick(&names);
@@ -290,6 +310,13 @@ fn length(random: &mut Random, call: &mut Call) -> String {
     let t = &mut set.strengths;
     let before = &mut call.before;
     match name {
+        "first weights" if call.door == Door::Weights => {
+            mislong(random, &mut before.first_weights, -1.0)
+        }
+        "second weights" if call.door == Door::Weights => {
+            mislong(random, &mut before.second_weights, -1.0)
+        }
+        "flags" if call.door == Door::Weights => mislong(random, &mut before.flags, 1),
         "addresses" => mislong(random, &mut t.addresses, 0),
         "vectors" => mislong(random, &mut t.vectors, 0.0),
         "multiplicity" => mislong(random, &mut t.multiplicity, 0),
@@ -353,6 +380,7 @@ fn index(random: &mut Random, call: &mut Call) -> String {
     let m = call.set.strengths.measures;
     let names: &[&str] = match call.door {
         Door::Totals => &["triplet"],
+        Door::Weights => &["triplet", "bands"],
         _ => &[
             "triplet",
             "p2s",
@@ -444,6 +472,7 @@ fn infinite(random: &mut Random, call: &mut Call) -> String {
             "second weights",
             "temperature",
         ],
+        Door::Weights => &["frequencies", "width"],
         _ => &[
             "vectors",
             "masses",
@@ -467,6 +496,10 @@ fn infinite(random: &mut Random, call: &mut Call) -> String {
         "second weights" => &mut set.second_weights,
         "cutoff" => {
             t.settings.cutoff = x;
+            return format!("{name} {x}");
+        }
+        "width" => {
+            call.shape = with_width(call.shape, x);
             return format!("{name} {x}");
         }
         _ => {
@@ -541,4 +574,20 @@ fn bath(random: &mut Random, call: &mut Call) -> String {
         bath.temperature = random.pick(&[-0.0, -0.0, -1.0, -5e-324, f64::MIN]);
         format!("temperature {}", bath.temperature)
     }
+}
+
+// Number 13.
+
+fn with_width(shape: Shape, width: f64) -> Shape {
+    match shape {
+        Shape::Gaussian(_) => Shape::Gaussian(width),
+        Shape::Lorentzian(_) => Shape::Lorentzian(width),
+        Shape::Box(_) => Shape::Box(width),
+    }
+}
+
+fn width(random: &mut Random, call: &mut Call) -> String {
+    let x = random.pick(&[0.0, -0.0, -1.0, -5e-324, f64::MIN]);
+    call.shape = with_width(call.shape, x);
+    format!("width {x}")
 }

@@ -4,16 +4,22 @@ use crate::call::{Call, Door, Kind};
 use crate::damage;
 use crate::phases;
 use crate::random::Random;
-use crate::tables::{self, Shape};
+use crate::tables::{self, Outline};
+use crate::weights;
 
-/// Kinds in the order of `Kind::ALL`, each as likely as its weight.
-const WEIGHTS: [usize; 12] = [140, 110, 45, 80, 70, 20, 40, 12, 90, 220, 200, 25];
+/// Kinds in the order of `Kind::ALL`, each as likely as its weight: those of a door.
+fn likely(door: Door) -> [usize; 13] {
+    match door {
+        Door::Weights => [140, 110, 60, 100, 100, 30, 0, 12, 0, 130, 220, 200, 25],
+        _ => [140, 110, 45, 80, 70, 20, 40, 12, 90, 0, 220, 200, 25],
+    }
+}
 
 /// The set with this index; the same for the same arguments on any machine.
 pub fn call(seed: u64, door: Door, index: u64) -> Call {
     let mut random = Random::of(seed, door as u64, index);
     let random = &mut random;
-    match Kind::ALL[random.weighted(&WEIGHTS)] {
+    match Kind::ALL[random.weighted(&likely(door))] {
         Kind::OneFault => damaged(random, door, 1),
         Kind::TwoFaults => damaged(random, door, 2),
         Kind::Foreign => foreign(random, door),
@@ -24,12 +30,16 @@ pub fn call(seed: u64, door: Door, index: u64) -> Call {
 /// A set within the limits; phases near or at their ends may go beyond. Where what a kind asks for cannot be made in the set, it is
 /// counted as usual.
 fn good(random: &mut Random, door: Door, kind: Kind) -> Call {
-    let shape = if kind == Kind::Limits {
-        Shape::at_a_limit(random, door)
+    let outline = if kind == Kind::Limits {
+        Outline::at_a_limit(random, door)
     } else {
-        Shape::random(random, door)
+        Outline::random(random, door)
     };
-    let mut call = tables::call(random, door, kind, &shape);
+    let mut call = tables::call(random, door, kind, &outline);
+    if door == Door::Weights {
+        weights::make(random, &mut call);
+        return call;
+    }
     let part = match kind {
         Kind::Far => Some(random.pick(&[0.3, 0.9, 0.999_999, 1.0, 1.0])),
         _ => None,

@@ -32,16 +32,27 @@ impl Hunt {
             list_of_triplets: self.fault.list_of_triplets,
             totals_alone: self.fault.totals_alone,
             joined: self.fault.joined,
+            integration_weights: self.fault.integration_weights,
             key: self.fault.key,
         }
     }
 }
 
-/// Looks for every mistake at each of its doors in the first `sets` sets of the seed.
-pub fn hunt(seed: u64, sets: u64, mut progress: impl FnMut(&str)) -> Vec<Hunt> {
+/// Looks for every mistake at each of its doors, of those that are named, in the first `sets` sets of the seed.
+pub fn hunt(
+    seed: u64,
+    sets: u64,
+    doors: &[Door],
+    key: bool,
+    mut progress: impl FnMut(&str),
+) -> Vec<Hunt> {
     let mut hunts = Vec::new();
     for fault in FAULTS {
-        for door in fault.doors.split(' ') {
+        let named = |door: &&str| match Door::named(door) {
+            Some(door) => doors.contains(&door),
+            None => key,
+        };
+        for door in fault.doors.split(' ').filter(named) {
             hunts.push(Hunt {
                 fault,
                 door,
@@ -50,10 +61,12 @@ pub fn hunt(seed: u64, sets: u64, mut progress: impl FnMut(&str)) -> Vec<Hunt> {
         }
     }
     for index in 0..sets {
-        for door in Door::ALL {
+        for &door in doors {
             hunt_in_set(&mut hunts, &generate::call(seed, door, index), index);
         }
-        hunt_in_carton(&mut hunts, seed, index);
+        if key {
+            hunt_in_carton(&mut hunts, seed, index);
+        }
         let left = hunts.iter().filter(|hunt| hunt.found.is_none()).count();
         progress(&format!("set {} of {sets}, {left} left", index + 1));
     }

@@ -1,4 +1,4 @@
-//! Compares the proved library's four doors, and the program `key`, with the oracle on random sets.
+//! Compares the proved library's five doors, and the program `key`, with the oracle on random sets.
 
 pub mod call;
 pub mod cartons;
@@ -19,3 +19,4 @@ pub mod replay;
 pub mod tables;
 pub mod tally;
 pub mod threads;
+pub mod weights;

@@ -1,8 +1,8 @@
-//! The static library's four functions, through the crate `wirambolo`.
+//! The static library's five functions, through the crate `wirambolo`.
 
 use crate::call::{Call, Door, Foreign};
 use crate::doors::{Doors, Lent};
-use oracle::sets::{Anchoring, Form, Symmetry, Weighting};
+use oracle::sets::{Anchoring, Form, Shape, Symmetry, Weighting};
 use wirambolo::flat::{self, FlatTables, FlatTotals};
 use wirambolo::{Bath, Measures, TotalsMeasures};
 
@@ -51,6 +51,7 @@ impl<'a> Handed<'a> {
             Some(Foreign::Form(number)) => tables.form = number,
             Some(Foreign::Symmetry(number)) => tables.symmetry = number,
             Some(Foreign::Weighting(number)) => weights = number,
+            Some(Foreign::Shape(_)) => (),
         }
         Handed {
             tables,
@@ -64,11 +65,67 @@ impl<'a> Handed<'a> {
     }
 }
 
+extern "C" {
+    fn wirambolo_integration_weights_at_triplet(
+        atoms: usize,
+        first: usize,
+        grid: usize,
+        shape: u8,
+        width: f64,
+        triplet: *const [i64; 3],
+        bands: *const i64,
+        bands_length: usize,
+        frequencies: *const f64,
+        frequencies_length: usize,
+        first_weights: *mut f64,
+        first_weights_length: usize,
+        second_weights: *mut f64,
+        second_weights_length: usize,
+        flags: *mut u8,
+        flags_length: usize,
+    ) -> u8;
+}
+
+/// The weights of a shape, which need no tables but bands and frequencies.
+fn weights(call: &Call, lent: Lent<'_>) -> u8 {
+    let t = &call.set.strengths;
+    let shape = match (call.foreign, call.shape) {
+        (Some(Foreign::Shape(number)), _) => number,
+        (_, Shape::Gaussian(_)) => 0,
+        (_, Shape::Lorentzian(_)) => 1,
+        (_, Shape::Box(_)) => 2,
+    };
+    // Safety: each pointer goes with the length of its own slice.
+    unsafe {
+        wirambolo_integration_weights_at_triplet(
+            t.measures.atoms as usize,
+            t.measures.first as usize,
+            t.measures.grid as usize,
+            shape,
+            call.shape.width(),
+            &call.set.triplet,
+            t.bands.as_ptr(),
+            t.bands.len(),
+            t.frequencies.as_ptr(),
+            t.frequencies.len(),
+            lent.first_weights.as_mut_ptr(),
+            lent.first_weights.len(),
+            lent.second_weights.as_mut_ptr(),
+            lent.second_weights.len(),
+            lent.flags.as_mut_ptr(),
+            lent.flags.len(),
+        )
+    }
+}
+
 /// The proved library.
 pub struct Library;
 
 impl Doors for Library {
     fn answer(&self, call: &Call, lent: Lent<'_>) -> u8 {
+        if call.door == Door::Weights {
+            return weights(call, lent);
+        }
         let h = Handed::of(call);
         let t = &h.tables;
         let flags = &call.set.strengths.flags;
@@ -111,6 +168,7 @@ impl Doors for Library {
                 totals,
                 work,
             ),
+            Door::Weights => unreachable!("answered above"),
         }
     }
 }

@@ -246,6 +246,9 @@ fn describe(call: &Call) -> String {
     if call.door.has_bath() {
         text += &format!(", {:?}, {:?}", call.weighting, call.set.bath);
     }
+    if call.door == Door::Weights {
+        text += &format!(", {:?}", call.shape);
+    }
     if !call.planted.is_empty() {
         text += &format!(", planted {:?}", call.planted);
     }
@@ -356,8 +359,15 @@ fn hunt_faults(_: &Wanted) -> ExitCode {
 /// Prints for each mistake the number of sets until each of its doors showed it; names those not found.
 #[cfg(feature = "faults")]
 fn hunt_faults(wanted: &Wanted) -> ExitCode {
+    use std::collections::HashSet;
     let mut line = differential::progress::Line::new();
-    let hunts = differential::hunt::hunt(wanted.seed, wanted.sets, |text| line.show(text));
+    let hunts = differential::hunt::hunt(
+        wanted.seed,
+        wanted.sets,
+        &wanted.doors,
+        wanted.key,
+        |text| line.show(text),
+    );
     line.clear();
     for group in hunts.chunk_by(|a, b| a.fault.name == b.fault.name) {
         print!("{}:", group[0].fault.name);
@@ -381,9 +391,10 @@ fn hunt_faults(wanted: &Wanted) -> ExitCode {
         .clone()
         .filter(|hunt| hunt.found.is_none())
         .count();
+    let mistakes: HashSet<&str> = of_mistakes.clone().map(|hunt| hunt.fault.name).collect();
     println!(
         "{} faults, {} with their doors, not found {missed}",
-        faults::FAULTS.len() - 1,
+        mistakes.len(),
         of_mistakes.count()
     );
     ExitCode::from(u8::from(wrong().next().is_some()))

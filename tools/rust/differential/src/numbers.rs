@@ -104,6 +104,29 @@ pub fn mass(random: &mut Random, style: Style) -> f64 {
     }
 }
 
+/// A width, above zero: some at the last number before twice it, eight times it, its square, or what is divided by them overflows
+/// or underflows, or just beyond.
+pub fn width(random: &mut Random, style: Style) -> f64 {
+    match style {
+        Style::Usual => random.pick(&[0.02, 0.2, 1.0, 4.0]) * (0.001 + random.part()),
+        Style::Coarse => random.pick(&[0.03125, 0.0625, 0.125, 0.25, 0.5, 1.0, 2.0]),
+        Style::Wide => scaled(random, -330, 330),
+        Style::Huge => match random.below(4) {
+            0 => random.pick(&[f64::MAX, f64::MAX / 2.0, power(1023)]),
+            1 => random.pick(&[f64::MAX / 8.0, power(1021), f64::MAX / 4.0]),
+            2 => scaled(random, 500, 1023),
+            _ => scaled(random, -3, 5),
+        },
+        Style::Tiny => match random.below(5) {
+            0 => random.pick(&[5e-324, 5e-324, 1e-323, f64::MIN_POSITIVE]),
+            1 => f64::from_bits((1 << 49) + random.pick(&[0, 1])),
+            2 => subnormal(random),
+            3 => scaled(random, -560, -500),
+            _ => scaled(random, -1070, -300),
+        },
+    }
+}
+
 /// A temperature without its sign bit; sometimes one that puts a frequency over it next to 709 or near zero.
 pub fn temperature(random: &mut Random, frequencies: &[f64]) -> f64 {
     let some = frequencies[random.below(frequencies.len())].abs();

@@ -6,7 +6,7 @@ use crate::random::Random;
 use oracle::sets::*;
 
 /// Measures, list length and choices, before any table is made.
-pub struct Shape {
+pub struct Outline {
     pub limit: Option<Limit>,
     pub measures: Measures,
     pub list: u64,
@@ -22,11 +22,11 @@ const WORK: u64 = 2_000_000;
 /// Rough number of force constants; few sets may have more.
 const CONSTANTS: u64 = 300_000;
 
-impl Shape {
+impl Outline {
     /// Mostly small, with every measure up to its limit now and then.
-    pub fn random(random: &mut Random, door: Door) -> Shape {
+    pub fn random(random: &mut Random, door: Door) -> Outline {
         let atoms = 1 + random.weighted(&ATOMS) as u64;
-        let mut shape = Shape {
+        let mut outline = Outline {
             limit: None,
             measures: Measures {
                 atoms,
@@ -53,8 +53,8 @@ impl Shape {
                 Weighting::PerSlot
             },
         };
-        shape.shrink(random);
-        shape
+        outline.shrink(random);
+        outline
     }
 
     /// Halves the supercell until the set is cheap; one in sixty stays as it is.
@@ -92,12 +92,12 @@ impl Shape {
     }
 
     /// One measure at its limit, or several, the others small enough for them.
-    pub fn at_a_limit(random: &mut Random, door: Door) -> Shape {
-        let mut shape = Shape::random(random, door);
+    pub fn at_a_limit(random: &mut Random, door: Door) -> Outline {
+        let mut outline = Outline::random(random, door);
         let (limits, weights) = limits(door);
         let limit = limits[random.weighted(weights)];
-        shape.limit = Some(limit);
-        let m = &mut shape.measures;
+        outline.limit = Some(limit);
+        let m = &mut outline.measures;
         match limit {
             Limit::Atoms => {
                 *m = Measures {
@@ -106,34 +106,34 @@ impl Shape {
                     first: first(random, 8),
                     ..*m
                 };
-                shape.list = shape.list.min(2);
-                shape.symmetry = symmetry(random, 8);
+                outline.list = outline.list.min(2);
+                outline.symmetry = symmetry(random, 8);
             }
             Limit::First => m.first = 3 * m.atoms,
             Limit::Grid => {
-                shape.small_cell(1, 3);
-                shape.measures.grid = 65_536;
+                outline.small_cell(1, 3);
+                outline.measures.grid = 65_536;
             }
             Limit::Supercell | Limit::LargestFull => {
                 m.supercell = 64;
                 m.atoms = m.atoms.min(2);
                 m.first = m.first.min(3 * m.atoms);
-                shape.form = match limit {
+                outline.form = match limit {
                     Limit::LargestFull => Form::Full,
                     _ => Form::Compact,
                 };
-                shape.list = 1;
+                outline.list = 1;
             }
             Limit::Vectors => {
-                shape.small_cell(1, random.pick(&[1, 1, 2]));
-                shape.measures.vectors = 65_536;
-                shape.list = 1;
-                shape.symmetry = symmetry(random, 8);
+                outline.small_cell(1, random.pick(&[1, 1, 2]));
+                outline.measures.vectors = 65_536;
+                outline.list = 1;
+                outline.symmetry = symmetry(random, 8);
             }
             Limit::List => {
-                shape.small_cell(1, 2);
-                shape.symmetry = symmetry(random, 4);
-                shape.list = 4_096;
+                outline.small_cell(1, 2);
+                outline.symmetry = symmetry(random, 4);
+                outline.list = 4_096;
             }
             Limit::LargestCell => {
                 *m = Measures {
@@ -142,24 +142,24 @@ impl Shape {
                     first: 24,
                     ..*m
                 };
-                shape.form = Form::Compact;
-                shape.symmetry = symmetry(random, 1);
-                shape.list = 1;
+                outline.form = Form::Compact;
+                outline.symmetry = symmetry(random, 1);
+                outline.list = 1;
             }
             Limit::GridAndVectors => {
-                shape.small_cell(random.pick(&[1, 1, 1, 2]), 3);
-                shape.measures.grid = 65_536;
-                shape.measures.vectors = 65_536;
-                shape.list = shape.list.min(2);
+                outline.small_cell(random.pick(&[1, 1, 1, 2]), 3);
+                outline.measures.grid = 65_536;
+                outline.measures.vectors = 65_536;
+                outline.list = outline.list.min(2);
             }
-            Limit::LargestTotals => {
+            Limit::LargestGrid => {
                 m.atoms = 8;
                 m.first = 24;
                 m.grid = 65_536;
             }
             Limit::LeastVectors => (),
         }
-        shape
+        outline
     }
 
     /// So many atoms, and at most so many in the supercell.
@@ -185,14 +185,9 @@ fn limits(door: Door) -> (&'static [Limit], &'static [usize]) {
         Limit::List,
     ];
     const WEIGHTS: [usize; 9] = [20, 20, 20, 20, 50, 5, 2, 3, 12];
-    const TOTALS: [Limit; 4] = [
-        Limit::Atoms,
-        Limit::First,
-        Limit::Grid,
-        Limit::LargestTotals,
-    ];
+    const FEW: [Limit; 4] = [Limit::Atoms, Limit::First, Limit::Grid, Limit::LargestGrid];
     match door {
-        Door::Totals => (&TOTALS, &[20, 20, 20, 3]),
+        Door::Totals | Door::Weights => (&FEW, &[20, 20, 20, 3]),
         Door::List => (&ALL, &WEIGHTS),
         _ => (&ALL[..8], &WEIGHTS[..8]),
     }
@@ -254,15 +249,20 @@ pub struct Styles {
     pub weights: Style,
 }
 
+/// The style of a kind.
+pub fn style_of(kind: Kind) -> Style {
+    match kind {
+        Kind::Coarse => Style::Coarse,
+        Kind::Wide => Style::Wide,
+        Kind::Huge => Style::Huge,
+        Kind::Tiny => Style::Tiny,
+        _ => Style::Usual,
+    }
+}
+
 impl Styles {
     pub fn of(random: &mut Random, kind: Kind) -> Styles {
-        let style = match kind {
-            Kind::Coarse => Style::Coarse,
-            Kind::Wide => Style::Wide,
-            Kind::Huge => Style::Huge,
-            Kind::Tiny => Style::Tiny,
-            _ => Style::Usual,
-        };
+        let style = style_of(kind);
         let mut some = || {
             if random.chance(2) {
                 style
@@ -334,8 +334,8 @@ fn s2p(random: &mut Random, m: &Measures, p2s: &[i64]) -> Vec<i64> {
 }
 
 /// (count, start) for each entry; counts are small, or reach to the last vector.
-fn multiplicity(random: &mut Random, shape: &Shape) -> Vec<i64> {
-    let m = &shape.measures;
+fn multiplicity(random: &mut Random, outline: &Outline) -> Vec<i64> {
+    let m = &outline.measures;
     let vectors = m.vectors as i64;
     let mut entries = Vec::new();
     for _ in 0..m.supercell * m.atoms {
@@ -353,7 +353,7 @@ fn multiplicity(random: &mut Random, shape: &Shape) -> Vec<i64> {
         let last = entries.len() - 2;
         entries[last] = vectors - entries[last + 1];
     }
-    if shape.limit == Some(Limit::Vectors) {
+    if outline.limit == Some(Limit::Vectors) {
         let whole = random.below(entries.len() / 2);
         entries[2 * whole..][..2].copy_from_slice(&[vectors, 0]);
     }
@@ -380,15 +380,15 @@ fn eigenvectors(random: &mut Random, count: u128, style: Style) -> Vec<f64> {
     numbers
 }
 
-/// The tables of a set, all but mesh, q matrix, addresses and vectors, which `phases` makes.
-pub fn call(random: &mut Random, door: Door, kind: Kind, shape: &Shape) -> Call {
+/// The tables of a set, all but mesh, q matrix, addresses and vectors, which `phases` makes, and the shape, which `weights` makes.
+pub fn call(random: &mut Random, door: Door, kind: Kind, outline: &Outline) -> Call {
     let styles = Styles::of(random, kind);
-    let m = shape.measures;
-    let all = Lengths::of(&m, shape.form);
+    let m = outline.measures;
+    let all = Lengths::of(&m, outline.form);
     let only = |tables: bool, count: u128| if tables { count } else { 0 };
     let tables = door.has_strengths_tables();
-    let slots = all.slots * u128::from(shape.list);
-    let entries = match shape.weighting {
+    let slots = all.slots * u128::from(outline.list);
+    let entries = match outline.weighting {
         Weighting::PerSlot => slots,
         Weighting::AtFrequencyPoint => pair_count(m.atoms),
     };
@@ -401,27 +401,27 @@ pub fn call(random: &mut Random, door: Door, kind: Kind, shape: &Shape) -> Call 
     let frequencies = table(all.frequencies, || {
         numbers::frequency(random, styles.frequencies)
     });
-    let triplets = table(u128::from(shape.list), || triplet(random, m.grid));
+    let triplets = table(u128::from(outline.list), || triplet(random, m.grid));
     let own = own_frequencies(&frequencies, &m, triplets[0]);
     let mut nonzero_in = random.pick(&[1, 2, 2, 3, 10]);
-    if shape.limit == Some(Limit::Vectors) {
+    if outline.limit == Some(Limit::Vectors) {
         // The one long entry is to be worked.
         nonzero_in = 1;
     }
     let strengths = StrengthsSet {
         measures: m,
         settings: Settings {
-            anchoring: shape.anchoring,
+            anchoring: outline.anchoring,
             cutoff: numbers::cutoff(random, &own),
         },
-        form: shape.form,
-        symmetry: shape.symmetry,
+        form: outline.form,
+        symmetry: outline.symmetry,
         mesh: [1; 3],
         q_matrix: [1, 0, 0, 0, 1, 0, 0, 0, 1],
         addresses: vec![0; only(tables, all.addresses) as usize],
         vectors: vec![0.0; only(tables, all.vectors) as usize],
         multiplicity: if tables {
-            multiplicity(random, shape)
+            multiplicity(random, outline)
         } else {
             vec![]
         },
@@ -430,7 +430,7 @@ pub fn call(random: &mut Random, door: Door, kind: Kind, shape: &Shape) -> Call 
         masses: table(only(tables, all.masses), || {
             numbers::mass(random, styles.masses)
         }),
-        bands: table(only(tables, all.bands), || {
+        bands: table(only(door.has_bands(), all.bands), || {
             random.between(0, 3 * m.atoms as i64 - 1)
         }),
         eigenvectors: eigenvectors(random, only(tables, all.eigenvectors), styles.eigenvectors),
@@ -442,7 +442,7 @@ pub fn call(random: &mut Random, door: Door, kind: Kind, shape: &Shape) -> Call 
                 0
             }
         }),
-        flags: flags(random, entries),
+        flags: flags(random, only(door.has_flags(), entries)),
         force_constants: table(only(tables, all.force_constants), || {
             numbers::number(random, styles.constants)
         }),
@@ -464,16 +464,16 @@ pub fn call(random: &mut Random, door: Door, kind: Kind, shape: &Shape) -> Call 
     Call {
         door,
         kind,
-        limit: shape.limit,
+        limit: outline.limit,
         planted: vec![],
-        list: shape.list,
+        list: outline.list,
         triplets: if door == Door::List {
             triplets.concat()
         } else {
             vec![]
         },
-        weighting: shape.weighting,
-        read_strengths: table(only(!tables, all.slots), || {
+        weighting: outline.weighting,
+        read_strengths: table(only(door == Door::Totals, all.slots), || {
             let x = numbers::number(random, styles.constants);
             if random.chance(9) {
                 x
@@ -481,11 +481,15 @@ pub fn call(random: &mut Random, door: Door, kind: Kind, shape: &Shape) -> Call 
                 x.abs()
             }
         }),
+        shape: Shape::Box(1.0),
         foreign: None,
         before: Buffers {
             strengths: any_table(random, only(tables, slots) as usize),
             totals: any_table(random, only(door.has_totals(), m.first.into()) as usize),
             work: any_table(random, only(tables, work as u128) as usize),
+            first_weights: any_table(random, only(door == Door::Weights, slots) as usize),
+            second_weights: any_table(random, only(door == Door::Weights, slots) as usize),
+            flags: table(only(door == Door::Weights, slots), || random.bits() as u8),
         },
         set,
     }

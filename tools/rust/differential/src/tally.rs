@@ -4,21 +4,26 @@ use crate::call::{Call, Door, Kind, Limit};
 use crate::cartons::CartonKind;
 use crate::doors::UNKNOWN;
 
+/// The refusals of the doors.
+const NUMBERS: [u8; 10] = [1, 2, 3, 4, 5, 6, 7, 8, 9, 13];
+/// One place for each number up to the highest.
+const PLACES: usize = 14;
+
 #[derive(Clone, Default)]
 struct DoorTally {
     sets: u64,
-    /// By answer; 10 stands for an unknown choice.
-    answers: [u64; 11],
-    kinds: [u64; 12],
+    answers: [u64; PLACES],
+    unknown: u64,
+    kinds: [u64; 13],
     /// Accepted sets with something at its limit.
     limits: [u64; 11],
-    alone: [u64; 10],
-    pairs: [[u64; 10]; 10],
+    alone: [u64; PLACES],
+    pairs: [[u64; PLACES]; PLACES],
 }
 
 #[derive(Default)]
 pub struct Tally {
-    doors: [DoorTally; 4],
+    doors: [DoorTally; 5],
     pub mismatches: u64,
 }
 
@@ -28,8 +33,8 @@ impl Tally {
         let tally = &mut self.doors[call.door as usize];
         tally.sets += 1;
         match answer {
-            Some(UNKNOWN) => tally.answers[10] += 1,
-            Some(answer) => tally.answers[usize::from(answer.min(9))] += 1,
+            Some(UNKNOWN) => tally.unknown += 1,
+            Some(answer) => tally.answers[usize::from(answer)] += 1,
             None => (),
         }
         tally.kinds[call.kind as usize] += 1;
@@ -53,6 +58,7 @@ impl Tally {
     pub fn add(&mut self, other: &Tally) {
         for (a, b) in self.doors.iter_mut().zip(&other.doors) {
             a.sets += b.sets;
+            a.unknown += b.unknown;
             add(&mut a.answers, &b.answers);
             add(&mut a.kinds, &b.kinds);
             add(&mut a.limits, &b.limits);
@@ -89,17 +95,17 @@ impl Tally {
             .filter(|&door| self.doors[door as usize].sets > 0)
             .collect();
         let mut text = format!("{:10}{:>9}{:>9}", "door", "sets", "accepted");
-        for number in 1..=9 {
+        for number in NUMBERS {
             text += &format!("{number:>7}");
         }
-        text += "    255\n";
+        text += &format!("{UNKNOWN:>7}\n");
         for &door in &worked {
             let tally = &self.doors[door as usize];
             text += &format!("{:10}{:>9}{:>9}", door.name(), tally.sets, tally.answers[0]);
-            for count in &tally.answers[1..] {
-                text += &format!("{count:>7}");
+            for number in NUMBERS {
+                text += &format!("{:>7}", tally.answers[usize::from(number)]);
             }
-            text += "\n";
+            text += &format!("{:>7}\n", tally.unknown);
         }
         let mut counts = |title: &str, rows: &[&str], count: &dyn Fn(&DoorTally, usize) -> u64| {
             text += &format!("\n{title:28}");

@@ -8,6 +8,7 @@ use differential::doors::{Doors, Lent, ORACLE, UNKNOWN};
 use differential::generate;
 use differential::tally::Tally;
 use oracle::sets::{work_size, Symmetry};
+use std::mem::discriminant;
 
 const SEED: u64 = 2;
 const SETS: u64 = 2_400;
@@ -26,8 +27,12 @@ fn sets_are_the_same_each_time() {
             );
             assert_eq!(a.changed_table(&b), None);
             assert_eq!(a.planted, b.planted);
-            // A planted temperature may be NaN.
-            let bits = |call: &Call| (call.set.bath.weight, call.set.bath.temperature.to_bits());
+            // A planted temperature or width may be NaN.
+            let bits = |call: &Call| {
+                let bath = call.set.bath;
+                let numbers = [bath.temperature, call.shape.width()].map(f64::to_bits);
+                (bath.weight, numbers, discriminant(&call.shape))
+            };
             assert_eq!(bits(&a), bits(&b));
         }
     }
@@ -157,6 +162,60 @@ fn any_nan_equals_any_nan_only_where_it_was_written() {
     };
     assert!(!with(written));
     assert!(with(flagged));
+}
+
+/// A small accepted set of the weights with a flagged and an unflagged slot.
+fn accepted_weights() -> Call {
+    (0..)
+        .map(|index| generate::call(SEED, Door::Weights, index))
+        .find(|call| {
+            let outcome = expected(call);
+            call.set.strengths.measures.atoms <= 2
+                && outcome.answer == 0
+                && outcome.after.flags.contains(&0)
+                && outcome.after.flags.contains(&1)
+        })
+        .expect("one of the first sets is such")
+}
+
+#[test]
+fn any_changed_weight_or_flag_is_a_difference() {
+    let call = accepted_weights();
+    let oracle = expected(&call);
+    let change = |edit: &dyn Fn(&mut Outcome)| {
+        let mut outcome = copy(&oracle);
+        edit(&mut outcome);
+        difference(&call, &oracle, &Ok(outcome)).is_some()
+    };
+    let flip = |x: &mut f64| *x = f64::from_bits(x.to_bits() ^ 1);
+    assert!(!change(&|_| ()));
+    for place in 0..oracle.after.flags.len() {
+        assert!(change(&|outcome| flip(
+            &mut outcome.after.first_weights[place]
+        )));
+        assert!(change(&|outcome| flip(
+            &mut outcome.after.second_weights[place]
+        )));
+        assert!(change(&|outcome| outcome.after.flags[place] ^= 1));
+        assert!(change(&|outcome| outcome.after.flags[place] |= 128));
+    }
+}
+
+#[test]
+fn any_nan_equals_any_nan_in_the_weights_of_an_accepted_set() {
+    let mut call = accepted_weights();
+    let other = f64::from_bits(f64::NAN.to_bits() ^ 1);
+    let differs = |call: &Call| {
+        let mut oracle = expected(call);
+        let mut outcome = copy(&oracle);
+        oracle.after.second_weights[0] = f64::NAN;
+        outcome.after.second_weights[0] = other;
+        difference(call, &oracle, &Ok(outcome)).is_some()
+    };
+    assert!(!differs(&call));
+    call.set.strengths.bands[0] = -1;
+    assert_eq!(expected(&call).answer, 3);
+    assert!(differs(&call));
 }
 
 /// Writes one number, or stops with a panic.

@@ -10,6 +10,7 @@ pub struct Fault {
     pub list_of_triplets: fn(&StrengthsSet, u64, &[i64], &mut [f64], &mut [f64]) -> u8,
     pub totals_alone: fn(&TotalsSet, &mut [f64]) -> u8,
     pub joined: fn(&JoinedSet, &mut [f64], &mut [f64], &mut [f64]) -> u8,
+    pub integration_weights: fn(&WeightsSet, &mut [f64], &mut [f64], &mut [u8]) -> u8,
     pub key: fn(&[u8]) -> Vec<u8>,
 }
 
