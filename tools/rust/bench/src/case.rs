@@ -1,4 +1,4 @@
-//! The sets that are timed: P atoms, 8·P in the supercell, F = B.
+//! The sets that are timed: P atoms, 8·P in the supercell, F = B; for the weights many frequency tables.
 
 use differential::call::{Buffers, Call, Door, Kind};
 use differential::random::Random;
@@ -17,15 +17,18 @@ pub enum Timed {
     TotalsFromFlags,
     /// Strengths and totals.
     Joined,
+    /// The weights of a shape, beside the oracle's plain Rust of document 02.
+    Weights,
 }
 
 impl Timed {
-    pub const ALL: [Timed; 5] = [
+    pub const ALL: [Timed; 6] = [
         Timed::Triplet,
         Timed::List,
         Timed::Totals,
         Timed::TotalsFromFlags,
         Timed::Joined,
+        Timed::Weights,
     ];
 
     pub fn name(self) -> &'static str {
@@ -35,6 +38,7 @@ impl Timed {
             Timed::Totals => "totals",
             Timed::TotalsFromFlags => "totals from flags",
             Timed::Joined => "joined",
+            Timed::Weights => "weights",
         }
     }
 
@@ -52,6 +56,7 @@ impl Timed {
             Timed::List => Door::List,
             Timed::Totals | Timed::TotalsFromFlags => Door::Totals,
             Timed::Joined => Door::Joined,
+            Timed::Weights => Door::Weights,
         }
     }
 }
@@ -71,6 +76,19 @@ const LIST: [[i64; 3]; 8] = [
     [1, 1, 2],
 ];
 
+/// The shapes that are timed. Of frequencies up to 16 the first Gaussian cuts most off and the second few.
+pub const SHAPES: [Shape; 4] = [
+    Shape::Gaussian(0.1),
+    Shape::Gaussian(1.0),
+    Shape::Lorentzian(0.1),
+    Shape::Box(0.5),
+];
+
+/// Slots of the weights that are worked before a frequency table comes again, and the least number of tables: too many for the
+/// machine to learn which of them lie within the shape's edge.
+const SLOTS: u128 = 1 << 16;
+const TABLES: u128 = 16;
+
 #[derive(Clone, Copy, Debug, PartialEq)]
 pub struct Case {
     pub timed: Timed,
@@ -78,25 +96,50 @@ pub struct Case {
     pub averaged: bool,
     pub symmetrized: bool,
     pub half_flagged: bool,
+    /// Of the weights alone.
+    pub shape: Option<Shape>,
 }
 
 impl Case {
-    /// Every case of what is timed; anchoring and symmetrizing do not touch totals alone.
+    /// Every case of what is timed; anchoring and symmetrizing do not touch totals alone, and the weights have a shape in their place
+    /// and write the flags.
     pub fn all(timed: Timed) -> Vec<Case> {
-        let choices: &[(bool, bool)] = match timed {
-            Timed::Totals | Timed::TotalsFromFlags => &[(false, false)],
-            _ => &[(false, false), (true, false), (false, true), (true, true)],
+        let plain = Case {
+            timed,
+            atoms: ATOMS[0],
+            averaged: false,
+            symmetrized: false,
+            half_flagged: false,
+            shape: None,
+        };
+        let choices = match timed {
+            Timed::Totals | Timed::TotalsFromFlags => vec![plain],
+            Timed::Weights => SHAPES
+                .map(|shape| Case {
+                    shape: Some(shape),
+                    ..plain
+                })
+                .to_vec(),
+            _ => [(false, false), (true, false), (false, true), (true, true)]
+                .map(|(averaged, symmetrized)| Case {
+                    averaged,
+                    symmetrized,
+                    ..plain
+                })
+                .to_vec(),
+        };
+        let flags: &[bool] = match timed {
+            Timed::Weights => &[false],
+            _ => &[false, true],
         };
         let mut cases = Vec::new();
-        for &(averaged, symmetrized) in choices {
-            for half_flagged in [false, true] {
+        for choice in choices {
+            for &half_flagged in flags {
                 for atoms in ATOMS {
                     cases.push(Case {
-                        timed,
                         atoms,
-                        averaged,
-                        symmetrized,
                         half_flagged,
+                        ..choice
                     });
                 }
             }
@@ -104,8 +147,16 @@ impl Case {
         cases
     }
 
-    /// Anchoring and symmetrizing in words; none for totals alone.
-    pub fn choices(&self) -> &'static str {
+    /// Anchoring and symmetrizing in words, or the shape; none for totals alone.
+    pub fn choices(&self) -> String {
+        if let Some(shape) = self.shape {
+            let name = match shape {
+                Shape::Gaussian(_) => "Gaussian",
+                Shape::Lorentzian(_) => "Lorentzian",
+                Shape::Box(_) => "box",
+            };
+            return format!("{name} {:?}", shape.width());
+        }
         match (self.timed.door(), self.averaged, self.symmetrized) {
             (Door::Totals, _, _) => "",
             (_, false, false) => "plain",
@@ -113,13 +164,15 @@ impl Case {
             (_, false, true) => "plain, symmetrized",
             (_, true, true) => "averaged, symmetrized",
         }
+        .to_string()
     }
 
+    /// The flags that are handed in; none to the weights.
     pub fn flags(&self) -> &'static str {
-        if self.half_flagged {
-            "half flagged"
-        } else {
-            "no flags"
+        match (self.timed, self.half_flagged) {
+            (Timed::Weights, _) => "",
+            (_, true) => "half flagged",
+            (_, false) => "no flags",
         }
     }
 
@@ -131,17 +184,45 @@ impl Case {
         }
     }
 
+    /// The calls that are gone through in turn: one, or for the weights as many as keep the machine from learning them.
+    pub fn calls(&self) -> Vec<Call> {
+        match self.shape {
+            Some(shape) => {
+                let slots = slot_count(self.atoms, 3 * self.atoms);
+                (0..SLOTS.div_ceil(slots).max(TABLES) as u64)
+                    .map(|place| self.weights_call(shape, place))
+                    .collect()
+            }
+            None => vec![self.call(8 * self.atoms)],
+        }
+    }
+
+    /// An accepted call of the weights, which have no supercell, with frequencies as a crystal has them in THz.
+    fn weights_call(&self, shape: Shape, place: u64) -> Call {
+        let mut random = Random::of(8, self.atoms, place);
+        let mut call = self.call(0);
+        for x in &mut call.set.strengths.frequencies {
+            *x = 0.5 + 15.5 * random.part();
+        }
+        let slots = call.set.strengths.flags.len();
+        call.shape = shape;
+        call.before.first_weights = vec![0.0; slots];
+        call.before.second_weights = vec![0.0; slots];
+        call.before.flags = vec![0; slots];
+        call
+    }
+
     /// An accepted call with everything to work: all frequencies above the cutoff, all force constants nonzero, a
     /// quarter of the pairs all-shortest, eight images of each atom.
-    pub fn call(&self) -> Call {
+    fn call(&self, supercell: u64) -> Call {
         let mut random = Random::of(7, self.atoms, 0);
         let random = &mut random;
         let m = Measures {
             atoms: self.atoms,
-            supercell: 8 * self.atoms,
+            supercell,
             first: 3 * self.atoms,
             grid: 3,
-            vectors: 16 * self.atoms * self.atoms,
+            vectors: 2 * supercell * self.atoms,
         };
         let l = Lengths::of(&m, Form::Compact);
         let mut units = |count: u128| -> Vec<f64> { (0..count).map(|_| random.unit()).collect() };
@@ -200,11 +281,13 @@ impl Case {
             triplets: LIST.concat(),
             weighting: Weighting::PerSlot,
             read_strengths: (0..slots).map(|_| random.part()).collect(),
+            shape: Shape::Box(1.0),
             foreign: None,
             before: Buffers {
                 strengths: vec![0.0; self.triplets() * slots],
                 totals: vec![0.0; m.first as usize],
                 work: vec![0.0; work_size(&m) as usize],
+                ..Buffers::default()
             },
             set: JoinedSet {
                 strengths,

@@ -81,6 +81,9 @@ fn lend(buffers: &mut Buffers) -> Lent<'_> {
         strengths: &mut buffers.strengths,
         totals: &mut buffers.totals,
         work: &mut buffers.work,
+        first_weights: &mut buffers.first_weights,
+        second_weights: &mut buffers.second_weights,
+        flags: &mut buffers.flags,
     }
 }
 
@@ -90,7 +93,7 @@ fn same(a: &[f64], b: &[f64]) -> bool {
         .all(|(x, y)| x.to_bits() == y.to_bits() || (x.is_nan() && y.is_nan()))
 }
 
-/// An error if the door refuses the case or leaves other bits than the Rust.
+/// An error if the door refuses a call of the case or leaves other bits than the Rust, whose turn the call is.
 fn check(case: &Case, call: &Call, doors: &dyn Doors, rust: &mut RustSide) -> Result<(), String> {
     let mut buffers = call.before.clone();
     let answer = doors.answer(call, lend(&mut buffers));
@@ -102,9 +105,15 @@ fn check(case: &Case, call: &Call, doors: &dyn Doors, rust: &mut RustSide) -> Re
     if strengths && !same(&buffers.strengths, &rust.strengths) {
         return Err(format!("{case:?}: strengths differ"));
     }
-    let totals = !matches!(case.timed, Timed::Triplet | Timed::List);
+    let totals = !matches!(case.timed, Timed::Triplet | Timed::List | Timed::Weights);
     if totals && !same(&buffers.totals, &rust.totals) {
         return Err(format!("{case:?}: totals differ"));
+    }
+    let weights = same(&buffers.first_weights, &rust.first_weights)
+        && same(&buffers.second_weights, &rust.second_weights)
+        && buffers.flags == rust.weights_flags;
+    if case.timed == Timed::Weights && !weights {
+        return Err(format!("{case:?}: weights or flags differ"));
     }
     Ok(())
 }
@@ -117,9 +126,9 @@ fn batch(calls: u32, mut work: impl FnMut()) -> Duration {
     now() - start
 }
 
-/// Calls that take about a batch's time.
-fn calls_in_batch(mut work: impl FnMut()) -> u32 {
-    let mut calls = 1;
+/// Calls that take about a batch's time: of calls in turn, all of them once or several times.
+fn calls_in_batch(in_turn: usize, mut work: impl FnMut()) -> u32 {
+    let mut calls = in_turn as u32;
     while calls < 1 << 20 && batch(calls, &mut work) < BATCH {
         calls *= 2;
     }
@@ -139,26 +148,40 @@ fn order(round: usize) -> [usize; SIDES] {
     std::array::from_fn(|place| (round + place * step) % SIDES)
 }
 
+/// The place behind this one of so many; the first behind the last.
+pub fn next(place: usize, count: usize) -> usize {
+    if place + 1 < count {
+        place + 1
+    } else {
+        0
+    }
+}
+
 fn micros(time: Duration, calls: u32) -> f64 {
     time.as_secs_f64() * 1e6 / f64::from(calls)
 }
 
 /// The least times of so many rounds, the sides alternating.
 pub fn measure(case: &Case, doors: &dyn Doors, rounds: u32) -> Result<Times, String> {
-    let call = case.call();
-    let mut rust = RustSide::of(&call);
+    let calls_in_turn = case.calls();
+    let mut rust = RustSide::of(&calls_in_turn);
     for n in 0..LIBRARIES {
         pick(n);
-        check(case, &call, doors, &mut rust)?;
+        for call in &calls_in_turn {
+            check(case, call, doors, &mut rust)?;
+        }
     }
-    let mut buffers = call.before.clone();
+    let mut buffers = calls_in_turn[0].before.clone();
+    let mut turn = 0;
     let mut rattle_work = || {
-        black_box(doors.answer(black_box(&call), lend(&mut buffers)));
+        let call = &calls_in_turn[turn];
+        turn = next(turn, calls_in_turn.len());
+        black_box(doors.answer(black_box(call), lend(&mut buffers)));
     };
     let mut rust_work = || rust.work(black_box(case.timed));
     let calls = (
-        calls_in_batch(&mut rattle_work),
-        calls_in_batch(&mut rust_work),
+        calls_in_batch(calls_in_turn.len(), &mut rattle_work),
+        calls_in_batch(calls_in_turn.len(), &mut rust_work),
     );
     // The Rust comes behind the libraries.
     let mut least = [f64::INFINITY; SIDES];

@@ -1,6 +1,6 @@
 //! The plot: for each door a panel of the ratio and one of the times against P, as SVG.
 
-use crate::case::{Case, Timed, ATOMS};
+use crate::case::{Case, Timed, ATOMS, SHAPES};
 use crate::report::Row;
 
 const WIDTH: f64 = 360.0;
@@ -139,16 +139,16 @@ fn series_of(rows: &[Row], timed: Timed) -> Vec<Series<'_>> {
 }
 
 fn colour(case: &Case) -> &'static str {
-    COLOURS[usize::from(case.averaged) + 2 * usize::from(case.symmetrized)]
+    let of_shape = SHAPES.iter().position(|&shape| case.shape == Some(shape));
+    let of_choices = usize::from(case.averaged) + 2 * usize::from(case.symmetrized);
+    COLOURS[of_shape.unwrap_or(of_choices)]
 }
 
 fn legend(series: &Series, x: f64, y: f64) -> String {
     let case = &series.case;
-    let label = if case.choices().is_empty() {
-        case.flags().to_string()
-    } else {
-        format!("{}, {}", case.choices(), case.flags())
-    };
+    let words = [case.choices(), case.flags().to_string()];
+    let words: Vec<String> = words.into_iter().filter(|word| !word.is_empty()).collect();
+    let label = words.join(", ");
     let dash = if case.half_flagged {
         " stroke-dasharray=\"5 3\""
     } else {

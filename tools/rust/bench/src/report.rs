@@ -1,6 +1,6 @@
 //! The table of ratios and times, in markdown.
 
-use crate::case::Case;
+use crate::case::{Case, Timed};
 use crate::measure::Times;
 
 pub type Row = (Case, Times);
@@ -8,8 +8,12 @@ pub type Row = (Case, Times);
 /// `library` names what was timed beside the Rust. Where a second library was timed, two columns more have its time and its ratio.
 pub fn markdown(rows: &[Row], rounds: u32, library: &str) -> String {
     let mut text = format!(
-        "{library} beside the Rust source: one thread's processor time, release, alternating, least of {rounds} rounds, the same bits. S = 8·P, F = B.\n\n"
+        "{library} beside the Rust source: one thread's processor time, release, alternating, least of {rounds} rounds, the same bits. S = 8·P, F = B."
     );
+    if rows.iter().any(|(case, _)| case.timed == Timed::Weights) {
+        text += " The weights: beside plain Rust of the same tests and formulas, on many frequency tables in turn.";
+    }
+    text += "\n\n";
     let two = rows.iter().any(|(_, times)| times.beside.is_some());
     text += "| Door | Choices | Flags | P | Rattle µs | Rust µs | Ratio |";
     text += if two {
@@ -41,7 +45,6 @@ pub fn markdown(rows: &[Row], rounds: u32, library: &str) -> String {
 #[cfg(test)]
 mod tests {
     use super::*;
-    use crate::case::Timed;
 
     #[test]
     fn a_row_for_each_case() {
@@ -53,6 +56,11 @@ mod tests {
         };
         let text = markdown(&[(case, times)], 3, "The library");
         assert!(text.ends_with("| triplet | plain | no flags | 1 | 1.00 | 2.00 | 0.50 |\n"));
+        assert!(!text.contains("weights"));
+        let case = Case::all(Timed::Weights)[0];
+        let text = markdown(&[(case, times)], 3, "The library");
+        assert!(text.ends_with("| weights | Gaussian 0.1 |  | 1 | 1.00 | 2.00 | 0.50 |\n"));
+        assert!(text.contains("The weights: beside plain Rust"));
     }
 
     #[test]

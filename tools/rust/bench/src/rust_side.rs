@@ -1,14 +1,20 @@
-//! The Rust source's functions on tables in its own shapes, with one scratch for all calls as in its own driver.
+//! The Rust source's functions on tables in its own shapes, with one scratch for all calls as in its own driver; and document 02's
+//! weights in plain Rust, with their tests.
 
 use crate::case::Timed;
-use differential::call::Call;
-use oracle::doors::{rows, signed, SourceTables};
+use crate::measure::next;
+use differential::call::{Call, Door};
+use oracle::doors::{integration_weights, rows, signed, SourceTables};
 use oracle::imag_self_energy::{get_imag_self_energy_with_g, imag_self_energy_at_triplet};
 use oracle::interaction::InteractionScratch;
-use oracle::sets::slot_count;
+use oracle::sets::{slot_count, WeightsSet};
+use std::hint::black_box;
 
 pub struct RustSide<'a> {
     call: &'a Call,
+    /// Those of the weights, gone through in turn.
+    weights_sets: Vec<WeightsSet>,
+    turn: usize,
     tables: SourceTables<'a>,
     flags: Vec<i8>,
     /// First weights, then second weights, as the source's driver takes them.
@@ -16,21 +22,35 @@ pub struct RustSide<'a> {
     scratch: InteractionScratch,
     pub strengths: Vec<f64>,
     pub totals: Vec<f64>,
+    pub first_weights: Vec<f64>,
+    pub second_weights: Vec<f64>,
+    pub weights_flags: Vec<u8>,
 }
 
 impl<'a> RustSide<'a> {
-    /// The tables of a call; one strengths call leaves the unflagged slots' positions in the scratch.
-    pub fn of(call: &'a Call) -> Self {
+    /// The tables of the first call; one strengths call leaves the unflagged slots' positions in the scratch. Of the weights, the sets
+    /// of all calls.
+    pub fn of(calls: &'a [Call]) -> Self {
+        let call = &calls[0];
         let mut side = RustSide {
             call,
+            weights_sets: vec![],
+            turn: 0,
             tables: SourceTables::of(&call.set.strengths),
             flags: signed(&call.set.strengths.flags),
             weights: [&call.set.first_weights[..], &call.set.second_weights].concat(),
             scratch: InteractionScratch::new(),
             strengths: call.before.strengths.clone(),
             totals: call.before.totals.clone(),
+            first_weights: call.before.first_weights.clone(),
+            second_weights: call.before.second_weights.clone(),
+            weights_flags: call.before.flags.clone(),
         };
-        side.triplet(call.set.triplet, 0);
+        if call.door == Door::Weights {
+            side.weights_sets = calls.iter().map(Call::weights_set).collect();
+        } else {
+            side.triplet(call.set.triplet, 0);
+        }
         side
     }
 
@@ -48,7 +68,20 @@ impl<'a> RustSide<'a> {
                 self.triplet(self.call.set.triplet, 0);
                 self.totals(true);
             }
+            Timed::Weights => self.weights(),
         }
+    }
+
+    /// The weights of the next set.
+    fn weights(&mut self) {
+        let set = &self.weights_sets[self.turn];
+        self.turn = next(self.turn, self.weights_sets.len());
+        black_box(integration_weights(
+            set,
+            &mut self.first_weights,
+            &mut self.second_weights,
+            &mut self.weights_flags,
+        ));
     }
 
     /// One triplet, into its own part of the strengths.
