@@ -1,11 +1,12 @@
 /*
  * wirambolo.h: three-phonon interaction strengths and band totals, for C99 and C++.
  *
- * Four functions:
- *   wirambolo_get_interaction_at_triplet    the strengths of one triplet
- *   wirambolo_get_interaction               the strengths of a list of triplets
- *   wirambolo_imag_self_energy_at_triplet   the totals of one triplet, from its strengths
- *   wirambolo_joined_at_triplet             the strengths and the totals of one triplet
+ * Five functions:
+ *   wirambolo_get_interaction_at_triplet       the strengths of one triplet
+ *   wirambolo_get_interaction                  the strengths of a list of triplets
+ *   wirambolo_imag_self_energy_at_triplet      the totals of one triplet, from its strengths
+ *   wirambolo_joined_at_triplet                the strengths and the totals of one triplet
+ *   wirambolo_integration_weights_at_triplet   the weights and the flags of one triplet, from a shape
  *
  * Link with libwirambolo_c.a (made by `rt staticlib wirambolo_c`, in target/staticlib), which needs
  * nothing but memcpy and memset of the C library.
@@ -17,11 +18,11 @@
  * - The call ends, and reads and writes no entry outside the arrays it is lent.
  * - The answer is 0 if the set is worked through, and otherwise says why it is not (ANSWERS).
  * - If the answer is not 0, no array is changed.
- * - If the answer is 0, every strength and every total has the bits that the definitions give
- *   (crates/phonon/specs); any NaN counts as equal to any other.
+ * - If the answer is 0, every entry of the arrays that the function writes has the bits that the definitions give
+ *   (crates/phonon/specs; weights from a shape: crates/integration_weights/specs); any NaN counts as equal to any other.
  * - An array whose parameter is const is only read.
- * This is proved: crates/wirambolo_c/src/lib.rt, whose `ensures` name crates/wirambolo_c/specs/Foreign.antt
- * and crates/phonon/specs/Doors.antt; docs/CLAIMS.md says what is trusted. Besides, nothing is allocated and
+ * This is proved: crates/wirambolo_c/src/lib.rt, whose `ensures` name crates/wirambolo_c/specs/Foreign.antt,
+ * which names those definitions; docs/CLAIMS.md says what is trusted. Besides, nothing is allocated and
  * nothing kept from one call to the next, so that several threads may call at once.
  *
  *
@@ -31,8 +32,9 @@
  *   length 0 it is not followed, and may be null.
  * - mesh, matrix and triplet have no length beside them: behind the pointer stand 3, 9 and 3 entries, and it is never
  *   null, whatever the call answers.
- * - An array that is written (strengths, totals, work; not the strengths of totals alone) shares no entry with
- *   any other array of the call. Arrays that are only read may share entries.
+ * - An array that is written (strengths, totals, work, but not the strengths of totals alone; flags, first_weights
+ *   and second_weights of weights from a shape) shares no entry with any other array of the call. Arrays that are
+ *   only read may share entries.
  * - No other thread changes the arrays during the call, nor looks at those that are written.
  * - The machine rounds to nearest and keeps subnormal numbers, as it does when a C program starts. (gcc and clang
  *   link a program otherwise with -ffast-math or -Ofast: subnormal numbers then count as zero.)
@@ -54,10 +56,12 @@
  *                    vector that multiplicity names, or of the sum of the three q (symmetrized: in any of the
  *                    six orders of the legs) and the first vector of supercell atom p2s[i] and atom 0
  *                    (phasesOk in crates/phonon/specs/Refusal.antt)
- *   255  unreadable  a choice is neither 0 nor 1
+ *    13  width       the width is zero (-0.0 too) or below
+ *   255  unreadable  a choice is none of its enum's numbers
  *
- * 255 comes before all others. Of 1 to 9 the lowest that applies is given, over the whole set. A function
- * tests what it is handed: only those with a bath give 8, and totals alone never gives 5, 6 and 9.
+ * 255 comes before all others. Of 1 to 13 the lowest that applies is given, over the whole set. A function
+ * tests what it is handed: only those with a bath give 8, totals alone never gives 5, 6 and 9, and weights from a
+ * shape never 5 to 9; it alone gives 13.
  *
  *
  * MEASURES                                                                  limits, else 1
@@ -84,6 +88,9 @@
  *   symmetry     enum wirambolo_symmetry: the legs are taken in their own order, or the mean of all six is taken
  *   weights      enum wirambolo_weights: flags and weights have an entry for each slot, or, at a frequency point,
  *                for each pair of later bands
+ *   shape        enum wirambolo_shape: what stands for the delta function of energy conservation, a Gaussian of a
+ *                width, a Lorentzian of a half-width or a box of a half-width
+ *   width        the shape's, in the unit of the frequencies: finite (4), above zero (13), which -0.0 is not
  *   cutoff       frequencies at or below it are cut off: finite (4), not below zero (7)
  *   weight       the triplet's weight: 1 to 2,147,483,647 (8)
  *   temperature  in the unit of the frequencies: finite (4), sign bit not set (8); 0.0 is allowed
@@ -134,6 +141,8 @@
  *   In a list, flags and strengths have list*F*B*B entries; those of triplet t begin at t*F*B*B.
  *   In totals alone, the strengths are only read and must be finite (4); at a frequency point, flags,
  *   first_weights and second_weights have B*B entries, [j*B + k], for all first bands alike.
+ *   In weights from a shape, flags, first_weights and second_weights are written; before the call any. The other
+ *   functions only read them.
  *
  *   q of a leg at grid point g: component k is the sum over d of
  *   matrix[3*k + d]*(addresses[3*g + d]/mesh[d]).
@@ -171,6 +180,12 @@ enum wirambolo_weights {
     WIRAMBOLO_AT_FREQUENCY_POINT = 1
 };
 
+enum wirambolo_shape {
+    WIRAMBOLO_GAUSSIAN = 0,
+    WIRAMBOLO_LORENTZIAN = 1,
+    WIRAMBOLO_BOX = 2
+};
+
 /* ---- answers */
 
 enum wirambolo_answer {
@@ -184,10 +199,11 @@ enum wirambolo_answer {
     WIRAMBOLO_CUTOFF = 7,
     WIRAMBOLO_BATH = 8,
     WIRAMBOLO_PHASE = 9,
+    WIRAMBOLO_WIDTH = 13,
     WIRAMBOLO_UNREADABLE = 255
 };
 
-/* ---- the four functions */
+/* ---- the five functions */
 
 /*
  * One triplet. Answers 0 to 7, 9 or 255.
@@ -381,6 +397,39 @@ uint8_t wirambolo_joined_at_triplet(
     double *work,
     size_t work_length);
 
+/*
+ * Weights from a shape: both weights and the flag of each slot of one triplet, as the functions above read them.
+ * Answers 0 to 4, 13 or 255.
+ *
+ * Accepted, it writes every entry of first_weights, second_weights and flags. Of slot (b, j, k), with f0 the frequency
+ * of band bands[b] at the first grid point, f1 of band j at the second and f2 of band k at the third, and
+ *     x = the shape at (f0 - f1) - f2,   y = the shape at (f0 + f1) - f2,   z = the shape at (f0 - f1) + f2,
+ * the first weight is x, the second y - z, and the flag 1 if x, y and z are all zero, else 0. At a distance d a shape
+ * of width w is
+ *     Gaussian     0.0 if |d| > 8*w, else (1/exp((t*t)/2))*(c/w) with t = d/w, c the double nearest 1/sqrt(2*pi);
+ *     Lorentzian   (w/(d*d + w*w))*c, c the double nearest 1/pi;
+ *     box          1/(2*w) if |d| <= w, else 0.0.
+ * Each operation is rounded once, and exp is that of crates/phonon/specs/Exp.antt. What overflows is kept:
+ * a weight may come out infinite, and a second weight a NaN; the functions that read weights then answer 4.
+ */
+uint8_t wirambolo_integration_weights_at_triplet(
+    size_t atoms,
+    size_t first,
+    size_t grid,
+    uint8_t shape,
+    double width,
+    const int64_t triplet[3],
+    const int64_t *bands,
+    size_t bands_length,
+    const double *frequencies,
+    size_t frequencies_length,
+    double *first_weights,
+    size_t first_weights_length,
+    double *second_weights,
+    size_t second_weights_length,
+    uint8_t *flags,
+    size_t flags_length);
+
 /* ---- lengths
  *
  * Each is exact for all arguments if it is at most WIRAMBOLO_LONGEST, the most numbers of 8 bytes whose bytes can be
@@ -520,6 +569,7 @@ static inline const char *wirambolo_answer_name(uint8_t answer)
     case WIRAMBOLO_CUTOFF: return "cutoff";
     case WIRAMBOLO_BATH: return "bath";
     case WIRAMBOLO_PHASE: return "phase";
+    case WIRAMBOLO_WIDTH: return "width";
     case WIRAMBOLO_UNREADABLE: return "unreadable";
     default: return "unknown";
     }
