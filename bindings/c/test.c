@@ -1,5 +1,7 @@
-/* Tests of wirambolo.h: lengths, answers, and what a call leaves of cell U and of a crystal. C99 and C++. `make -C bindings/c test` runs it. */
+/* Tests of wirambolo.h: lengths, answers, and what a call leaves of cell U and of a crystal. C99 and C++. `make -C bindings/c test` runs it,
+ * with bindings/weights.txt as its argument. */
 
+#include <inttypes.h>
 #include <math.h>
 #include <stdint.h>
 #include <stdio.h>
@@ -36,11 +38,11 @@ enum {
     MOST_WORK = 135 * P * P * P + 54 * P * P + 6 * P * S + 8 * P + 2
 };
 
-/* All that the four functions are handed, and what is written. */
+/* All that the five functions are handed, and what is written. */
 struct set {
     size_t atoms, supercell, first, grid, vectors_count, list;
-    uint8_t anchoring, form, symmetry, weights;
-    double cutoff;
+    uint8_t anchoring, form, symmetry, weights, shape;
+    double cutoff, width;
     int64_t weight;
     double temperature;
     int64_t mesh[3], matrix[9], triplet[3], triplets[3 * LIST], addresses[3 * G], multiplicity[2 * S * P], p2s[P], s2p[S], bands[F];
@@ -48,10 +50,12 @@ struct set {
     double first_weights[MOST_SLOTS], second_weights[MOST_SLOTS], read_strengths[MOST_SLOTS];
     uint8_t shortest[P * S * S], nonzero[S * S * S], flags[LIST * MOST_SLOTS];
     double strengths[LIST * MOST_SLOTS], totals[F], work[MOST_WORK];
-    /* what is handed over as the length of each that has one; slots: of the arrays with an entry for each slot of one triplet */
+    /* what is handed over as the length of each that has one; slots: of the arrays with an entry for each slot of one triplet. Those that
+     * weights from a shape writes have each their own. */
     struct {
         size_t triplets, addresses, multiplicity, p2s, s2p, bands;
         size_t vectors, masses, frequencies, eigenvectors, constants, shortest, nonzero, slots, totals, work;
+        size_t first_weights, second_weights, flags;
     } lengths;
 };
 
@@ -87,6 +91,7 @@ static struct set sized(size_t atoms, size_t supercell, size_t first, size_t gri
     s.lengths.nonzero = wirambolo_nonzero_length(atoms, supercell, form);
     s.lengths.constants = wirambolo_constants_length(atoms, supercell, form);
     s.lengths.slots = wirambolo_slots(atoms, first);
+    s.lengths.first_weights = s.lengths.second_weights = s.lengths.flags = s.lengths.slots;
     s.lengths.work = wirambolo_work_length(atoms, supercell) + 2;
     fill(s.strengths, LIST * s.lengths.slots, -1.0);
     fill(s.totals, s.lengths.totals, -1.0);
@@ -99,6 +104,7 @@ static struct set cell_u(void)
     struct set s = sized(1, 1, 3, 1, 1, WIRAMBOLO_COMPACT);
     s.cutoff = 0.5;
     s.weight = 3;
+    s.width = 0.25;
     for (size_t n = 0; n < 3; n++) {
         s.mesh[n] = 1;
         s.matrix[4 * n] = 1;
@@ -174,7 +180,7 @@ static struct set crystal(uint8_t form)
     return s;
 }
 
-/* ---- the four functions on a set */
+/* ---- the five functions on a set */
 
 /* An array and its length. */
 #define LENT(s, array) (s)->array, (s)->lengths.array
@@ -217,6 +223,13 @@ static uint8_t joined_door(struct set *s)
     return wirambolo_joined_at_triplet(
         BEFORE(s), s->triplet, TABLES(s), SLOTTED(s, flags), s->weight, s->temperature, SLOTTED(s, first_weights),
         SLOTTED(s, second_weights), SLOTTED(s, strengths), LENT(s, totals), LENT(s, work));
+}
+
+static uint8_t weights_door(struct set *s)
+{
+    return wirambolo_integration_weights_at_triplet(
+        s->atoms, s->first, s->grid, s->shape, s->width, s->triplet, LENT(s, bands), LENT(s, frequencies),
+        LENT(s, first_weights), LENT(s, second_weights), LENT(s, flags));
 }
 
 /* ---- comparing by bits */
@@ -386,14 +399,27 @@ static void accepted(void)
     CHECK(totals_are(&s, 6.0, 3.0, 0.0));
 }
 
-/* FNV-1a, 64 bits, over the bits of each number, lowest byte first. */
+/* FNV-1a, 64 bits: where it starts, and what a byte makes of it. */
+static const uint64_t undigested = UINT64_C(0xcbf29ce484222325);
+
+static uint64_t digested_byte(uint64_t state, uint64_t byte)
+{
+    return (state ^ byte) * UINT64_C(0x100000001b3);
+}
+
+static uint64_t bits_of(double x)
+{
+    uint64_t bits;
+    memcpy(&bits, &x, sizeof bits);
+    return bits;
+}
+
+/* The bits of each number, lowest byte first. */
 static uint64_t digested(uint64_t state, const double *numbers, size_t count)
 {
     for (size_t n = 0; n < count; n++) {
-        uint64_t bits;
-        memcpy(&bits, &numbers[n], sizeof bits);
         for (int byte = 0; byte < 8; byte++) {
-            state = (state ^ (bits >> (8 * byte) & 0xff)) * UINT64_C(0x100000001b3);
+            state = digested_byte(state, bits_of(numbers[n]) >> (8 * byte) & 0xff);
         }
     }
     return state;
@@ -403,7 +429,7 @@ static uint64_t digested(uint64_t state, const double *numbers, size_t count)
 static void crystals(void)
 {
     static const double temperatures[2] = {0.0, 1.75};
-    uint64_t digest = UINT64_C(0xcbf29ce484222325);
+    uint64_t digest = undigested;
     for (unsigned n = 0; n < 16; n++) {
         struct set joined = crystal(n & 8 ? WIRAMBOLO_FULL : WIRAMBOLO_COMPACT);
         struct set other;
@@ -417,7 +443,7 @@ static void crystals(void)
         digest = digested(digest, joined.strengths, slots);
         digest = digested(digest, joined.totals, joined.lengths.totals);
 
-        /* The other three agree with it. */
+        /* The other functions of strengths and totals agree with it. */
         CHECK(triplet_door(&other) == WIRAMBOLO_ACCEPTED);
         CHECK(same(other.strengths, joined.strengths, slots));
         memcpy(other.read_strengths, joined.strengths, slots * sizeof (double));
@@ -431,6 +457,209 @@ static void crystals(void)
     }
     /* The digest of bindings/rust/tests/doors.rs: of the strengths and totals that the oracle (tools/rust/oracle) leaves. */
     CHECK(digest == UINT64_C(0xdb59cc90d6cf1dad));
+}
+
+/* Something in both weights and the flags. */
+static void unweigh(struct set *s, double weight, uint8_t flag)
+{
+    fill(s->first_weights, MOST_SLOTS, weight);
+    fill(s->second_weights, MOST_SLOTS, weight);
+    memset(s->flags, flag, sizeof s->flags);
+}
+
+/* Whether weights from a shape accepts the set and leaves every byte of it but the entries that it writes. */
+static int weighs(struct set *s)
+{
+    static struct set before;
+    size_t slots = s->lengths.slots;
+    memcpy(&before, s, sizeof before);
+    if (weights_door(s) != WIRAMBOLO_ACCEPTED) {
+        return 0;
+    }
+    memcpy(before.first_weights, s->first_weights, slots * sizeof (double));
+    memcpy(before.second_weights, s->second_weights, slots * sizeof (double));
+    memcpy(before.flags, s->flags, slots);
+    return memcmp(&before, s, sizeof before) == 0;
+}
+
+/* The number with these bits; any NaN as any other. */
+static int has_bits(double x, uint64_t bits)
+{
+    return x != x ? bits == UINT64_C(0x7ff8000000000000) : bits_of(x) == bits;
+}
+
+static double of_bits(uint64_t bits)
+{
+    double x;
+    memcpy(&x, &bits, sizeof x);
+    return x;
+}
+
+/* Every line of the file: shape, width, the three frequencies of a slot, and what it is left, numbers by their bits. The frequencies are those
+ * of all bands at a leg's grid point, so that each slot is such a slot. bindings/python/test_wirambolo.py works the lines out from the formulas. */
+static void weights_by_bits(const char *path)
+{
+    uint64_t width, frequencies[3], first, second;
+    unsigned shape, flag;
+    int read, lines = 0;
+    FILE *file = fopen(path, "r");
+    CHECK(file != NULL);
+    if (file == NULL) {
+        return;
+    }
+    while ((read = fscanf(
+                file, "%u %" SCNx64 " %" SCNx64 " %" SCNx64 " %" SCNx64 " %" SCNx64 " %" SCNx64 " %u", &shape, &width,
+                &frequencies[0], &frequencies[1], &frequencies[2], &first, &second, &flag)) == 8) {
+        struct set s = sized(1, 1, 2, 3, 1, WIRAMBOLO_COMPACT);
+        lines++;
+        s.shape = (uint8_t)shape;
+        s.width = of_bits(width);
+        s.bands[0] = 2;
+        for (int64_t leg = 0; leg < 3; leg++) {
+            s.triplet[leg] = (leg + 2) % 3;
+            fill(s.frequencies + 3 * s.triplet[leg], 3, of_bits(frequencies[leg]));
+        }
+        unweigh(&s, -1.0, 170);
+        CHECK(weighs(&s));
+        for (size_t n = 0; n < s.lengths.slots; n++) {
+            CHECK(has_bits(s.first_weights[n], first));
+            CHECK(has_bits(s.second_weights[n], second));
+            CHECK(s.flags[n] == flag);
+        }
+    }
+    CHECK(read == EOF);
+    CHECK(lines == 31);
+    fclose(file);
+}
+
+/* The crystal, whatever stands in the arrays before; and cell U. */
+static void weights(void)
+{
+    static const uint8_t shapes[3] = {WIRAMBOLO_GAUSSIAN, WIRAMBOLO_LORENTZIAN, WIRAMBOLO_BOX};
+    static const double widths[3] = {0.1, 0.1, 0.7};
+    /* Of first weights, second weights and flags, from the formulas, as bindings/python/test_wirambolo.py works them out. */
+    static const uint64_t digests[3] = {
+        UINT64_C(0x1766c9332bee884b), UINT64_C(0x8452ca4e237460cd), UINT64_C(0xb15286598ba3d741)};
+    struct set s;
+    for (int n = 0; n < 3; n++) {
+        for (int filled = 0; filled < 2; filled++) {
+            uint64_t digest = undigested;
+            s = crystal(WIRAMBOLO_COMPACT);
+            s.shape = shapes[n];
+            s.width = widths[n];
+            unweigh(&s, filled ? (double)NAN : -1.0, filled ? 255 : 0);
+            CHECK(weighs(&s));
+            digest = digested(digest, s.first_weights, s.lengths.slots);
+            digest = digested(digest, s.second_weights, s.lengths.slots);
+            for (size_t slot = 0; slot < s.lengths.slots; slot++) {
+                digest = digested_byte(digest, s.flags[slot]);
+            }
+            CHECK(digest == digests[n]);
+        }
+    }
+
+    /* Frequencies 1, 2 and 4 under a box: 4 = 2 + 2 and 2 = 1 + 1 as first weights, 2 + 2 = 4 and 1 + 1 = 2 as second ones. */
+    s = cell_u();
+    s.shape = WIRAMBOLO_BOX;
+    CHECK(weights_door(&s) == WIRAMBOLO_ACCEPTED);
+    for (size_t b = 0; b < 3; b++) {
+        for (size_t j = 0; j < 3; j++) {
+            for (size_t k = 0; k < 3; k++) {
+                size_t slot = wirambolo_slot(1, b, j, k);
+                double first = b > 0 && j == b - 1 && k == b - 1 ? 2.0 : 0.0;
+                double second = (j == b && k == b + 1 ? 2.0 : 0.0) - (k == b && j == b + 1 ? 2.0 : 0.0);
+                CHECK(has_bits(s.first_weights[slot], bits_of(first)));
+                CHECK(has_bits(s.second_weights[slot], bits_of(second)));
+                CHECK(s.flags[slot] == (first == 0.0 && second == 0.0));
+            }
+        }
+    }
+    /* As they are, the functions that read them take them. */
+    CHECK(joined_door(&s) == WIRAMBOLO_ACCEPTED);
+    CHECK(totals_door(&s) == WIRAMBOLO_ACCEPTED);
+
+    /* What overflows is kept, and turned away where it is read. */
+    s = cell_u();
+    s.shape = WIRAMBOLO_BOX;
+    s.width = 5e-324;
+    fill(s.frequencies, 3, 0.0);
+    CHECK(weights_door(&s) == WIRAMBOLO_ACCEPTED);
+    CHECK(s.first_weights[5] > 1e308 && s.second_weights[5] != s.second_weights[5] && s.flags[5] == 0);
+    CHECK(refuses(joined_door, s, WIRAMBOLO_NOT_FINITE));
+    CHECK(refuses(totals_door, s, WIRAMBOLO_NOT_FINITE));
+}
+
+/* Each answer of weights from a shape, for every shape. */
+static void weights_refused(uint8_t shape)
+{
+    static const double not_finite[3] = {(double)NAN, (double)INFINITY, -(double)INFINITY};
+    static const double not_above_zero[3] = {0.0, -0.0, -5e-324};
+    struct set s;
+
+    s = cell_u(), s.shape = shape;
+    CHECK(weights_door(&s) == WIRAMBOLO_ACCEPTED);
+
+    s = cell_u(), s.shape = shape, s.atoms = 0;
+    CHECK(refuses(weights_door, s, WIRAMBOLO_MEASURE));
+    s.atoms = 9;
+    CHECK(refuses(weights_door, s, WIRAMBOLO_MEASURE));
+    s = cell_u(), s.shape = shape, s.first = 0;
+    CHECK(refuses(weights_door, s, WIRAMBOLO_MEASURE));
+    s.first = 4;
+    CHECK(refuses(weights_door, s, WIRAMBOLO_MEASURE));
+    s = cell_u(), s.shape = shape, s.grid = 0;
+    CHECK(refuses(weights_door, s, WIRAMBOLO_MEASURE));
+    s.grid = 65537;
+    CHECK(refuses(weights_door, s, WIRAMBOLO_MEASURE));
+
+    /* One entry less and one more; measures within their limits. */
+    for (size_t more = 0; more < 2; more++) {
+        s = cell_u(), s.shape = shape, s.lengths.bands = 2 + 2 * more;
+        CHECK(refuses(weights_door, s, WIRAMBOLO_LENGTH));
+        s = cell_u(), s.shape = shape, s.lengths.frequencies = 2 + 2 * more;
+        CHECK(refuses(weights_door, s, WIRAMBOLO_LENGTH));
+        s = cell_u(), s.shape = shape, s.lengths.first_weights = SLOTS - 1 + 2 * more;
+        CHECK(refuses(weights_door, s, WIRAMBOLO_LENGTH));
+        s = cell_u(), s.shape = shape, s.lengths.second_weights = SLOTS - 1 + 2 * more;
+        CHECK(refuses(weights_door, s, WIRAMBOLO_LENGTH));
+        s = cell_u(), s.shape = shape, s.lengths.flags = SLOTS - 1 + 2 * more;
+        CHECK(refuses(weights_door, s, WIRAMBOLO_LENGTH));
+    }
+    s = cell_u(), s.shape = shape, s.atoms = 8;
+    CHECK(refuses(weights_door, s, WIRAMBOLO_LENGTH));
+    s = cell_u(), s.shape = shape, s.grid = 65536;
+    CHECK(refuses(weights_door, s, WIRAMBOLO_LENGTH));
+
+    for (int n = 0; n < 3; n++) {
+        s = cell_u(), s.shape = shape, s.triplet[n] = 1;
+        CHECK(refuses(weights_door, s, WIRAMBOLO_INDEX));
+        s.triplet[n] = -1;
+        CHECK(refuses(weights_door, s, WIRAMBOLO_INDEX));
+        s = cell_u(), s.shape = shape, s.bands[n] = 3;
+        CHECK(refuses(weights_door, s, WIRAMBOLO_INDEX));
+        s.bands[n] = -1;
+        CHECK(refuses(weights_door, s, WIRAMBOLO_INDEX));
+        s = cell_u(), s.shape = shape, s.frequencies[n] = not_finite[n];
+        CHECK(refuses(weights_door, s, WIRAMBOLO_NOT_FINITE));
+        s = cell_u(), s.shape = shape, s.width = not_finite[n];
+        CHECK(refuses(weights_door, s, WIRAMBOLO_NOT_FINITE));
+        s = cell_u(), s.shape = shape, s.width = not_above_zero[n];
+        CHECK(refuses(weights_door, s, WIRAMBOLO_WIDTH));
+        /* The lowest number, over the whole set: the last frequency. */
+        s.frequencies[2] = not_finite[n];
+        CHECK(refuses(weights_door, s, WIRAMBOLO_NOT_FINITE));
+        s.triplet[n] = 1;
+        CHECK(refuses(weights_door, s, WIRAMBOLO_INDEX));
+        s.lengths.flags = 0;
+        CHECK(refuses(weights_door, s, WIRAMBOLO_LENGTH));
+        s.atoms = 0;
+        CHECK(refuses(weights_door, s, WIRAMBOLO_MEASURE));
+    }
+    /* A frequency of a grid point outside the triplet; two points, and the arrays as long as they ask. */
+    s = cell_u(), s.shape = shape, s.grid = 2, s.lengths.frequencies = 6;
+    CHECK(weights_door(&s) == WIRAMBOLO_ACCEPTED);
+    s.frequencies[5] = (double)NAN;
+    CHECK(refuses(weights_door, s, WIRAMBOLO_NOT_FINITE));
 }
 
 static void refused(void)
@@ -495,6 +724,10 @@ static void unreadable(void)
     CHECK(refuses(joined_door, s, WIRAMBOLO_UNREADABLE));
     s = cell_u(), s.weights = 128, s.grid = 0;
     CHECK(refuses(totals_door, s, WIRAMBOLO_UNREADABLE));
+    s = cell_u(), s.shape = 3;
+    CHECK(refuses(weights_door, s, WIRAMBOLO_UNREADABLE));
+    s = cell_u(), s.shape = 255, s.atoms = 0, s.width = (double)NAN;
+    CHECK(refuses(weights_door, s, WIRAMBOLO_UNREADABLE));
 }
 
 /* Null pointers of length 0. */
@@ -517,21 +750,34 @@ static void null_pointers(void)
     CHECK(wirambolo_imag_self_energy_at_triplet(
               1, 1, 1, 0, ones, NULL, 0, 0.0, NULL, 0, NULL, 0, 1, 0.0, NULL, 0, NULL, 0, NULL, 0)
           == WIRAMBOLO_LENGTH);
+    CHECK(wirambolo_integration_weights_at_triplet(
+              1, 1, 1, 0, 1.0, ones, NULL, 0, NULL, 0, NULL, 0, NULL, 0, NULL, 0)
+          == WIRAMBOLO_LENGTH);
 }
 
 static void names(void)
 {
     CHECK(strcmp(wirambolo_answer_name(0), "accepted") == 0);
     CHECK(strcmp(wirambolo_answer_name(9), "phase") == 0);
+    CHECK(strcmp(wirambolo_answer_name(13), "width") == 0);
     CHECK(strcmp(wirambolo_answer_name(255), "unreadable") == 0);
     CHECK(strcmp(wirambolo_answer_name(10), "unknown") == 0);
 }
 
-int main(void)
+int main(int count, char **arguments)
 {
+    if (count != 2) {
+        fprintf(stderr, "usage: %s weights.txt\n", arguments[0]);
+        return EXIT_FAILURE;
+    }
     lengths();
     accepted();
     crystals();
+    weights_by_bits(arguments[1]);
+    weights();
+    for (uint8_t shape = WIRAMBOLO_GAUSSIAN; shape <= WIRAMBOLO_BOX; shape++) {
+        weights_refused(shape);
+    }
     refused();
     unreadable();
     null_pointers();
