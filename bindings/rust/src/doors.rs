@@ -1,8 +1,8 @@
-//! The four functions.
+//! The five functions.
 
-use crate::flat::{self, FlatTables, FlatTotals};
+use crate::flat::{self, FlatTables, FlatTotals, FlatWeights};
 use crate::refusal::Refusal;
-use crate::sets::{JoinedSet, ListSet, Tables, TotalsSet, TripletSet};
+use crate::sets::{JoinedSet, ListSet, Tables, TotalsSet, TripletSet, WeightsSet};
 
 /// The strengths of one triplet.
 ///
@@ -12,7 +12,7 @@ use crate::sets::{JoinedSet, ListSet, Tables, TotalsSet, TripletSet};
 ///
 /// # Errors
 ///
-/// Every refusal but [`Bath`](Refusal::Bath). Nothing is changed then.
+/// Every refusal but [`Bath`](Refusal::Bath) and [`Width`](Refusal::Width). Nothing is changed then.
 ///
 /// # Panics
 ///
@@ -82,7 +82,7 @@ pub fn get_interaction_at_triplet(
 ///
 /// # Errors
 ///
-/// Every refusal but [`Bath`](Refusal::Bath). Nothing is changed then.
+/// Every refusal but [`Bath`](Refusal::Bath) and [`Width`](Refusal::Width). Nothing is changed then.
 ///
 /// # Panics
 ///
@@ -182,7 +182,7 @@ pub fn imag_self_energy_at_triplet(set: &TotalsSet<'_>, totals: &mut [f64]) -> R
 ///
 /// # Errors
 ///
-/// Every refusal. Nothing is changed then.
+/// Every refusal but [`Width`](Refusal::Width). Nothing is changed then.
 ///
 /// # Panics
 ///
@@ -190,7 +190,7 @@ pub fn imag_self_energy_at_triplet(set: &TotalsSet<'_>, totals: &mut [f64]) -> R
 ///
 /// # Examples
 ///
-/// The example `key` (`examples/key.rs`) works cell U through this function.
+/// The example `key` (`examples/key.rs`) works cell U through this function, with weights from a shape.
 pub fn joined_at_triplet(
     set: &JoinedSet<'_>,
     strengths: &mut [f64],
@@ -207,6 +207,68 @@ pub fn joined_at_triplet(
         strengths,
         totals,
         work,
+    ))
+}
+
+/// Weights from a shape: both weights and the flag of each slot of one triplet, as the other functions read them.
+///
+/// `first_weights`, `second_weights` and `flags` have an entry for each slot, F·B·B; what they hold before the call is free. Accepted,
+/// every entry is written. With f0 the frequency of the first band at position b, f1 of band j, f2 of band k, each at its leg's grid
+/// point, slot (b, j, k) has as its first weight the [`Shape`](crate::Shape) at (f0 − f1) − f2, as its second weight the shape at
+/// (f0 + f1) − f2 less that at (f0 − f1) + f2, and as its flag 1 if all three are zero, else 0. What overflows is kept: a weight may come
+/// out infinite and a second weight a NaN, and the functions that read weights then answer [`NotFinite`](Refusal::NotFinite).
+///
+/// # Errors
+///
+/// [`Measure`](Refusal::Measure), [`Length`](Refusal::Length), [`Index`](Refusal::Index), [`NotFinite`](Refusal::NotFinite) (the width
+/// too), [`Width`](Refusal::Width). Nothing is changed then.
+///
+/// # Panics
+///
+/// If the library answers a number that is none of [`Refusal`]'s: it is of another edition than this crate.
+///
+/// # Examples
+///
+/// ```
+/// use wirambolo::*;
+///
+/// let set = WeightsSet {
+///     measures: TotalsMeasures { atoms: 1, first: 3, grid: 1 },
+///     shape: Shape::Box(0.25),
+///     triplet: [0; 3],
+///     bands: &[0, 1, 2],
+///     frequencies: &[3.0, 1.0, 2.0],
+/// };
+/// let (mut first_weights, mut second_weights, mut flags) = ([0.0; 27], [0.0; 27], [0; 27]);
+/// integration_weights_at_triplet(&set, &mut first_weights, &mut second_weights, &mut flags)?;
+/// // 3 = 1 + 2
+/// assert_eq!((first_weights[slot(1, 0, 1, 2)], flags[slot(1, 0, 1, 2)]), (2.0, 0));
+/// assert_eq!((first_weights[slot(1, 0, 1, 1)], flags[slot(1, 0, 1, 1)]), (0.0, 1));
+///
+/// let narrow = WeightsSet { shape: Shape::Gaussian(0.0), ..set };
+/// let refused = integration_weights_at_triplet(&narrow, &mut first_weights, &mut second_weights, &mut flags);
+/// assert_eq!(refused, Err(Refusal::Width));
+/// # Ok::<(), Refusal>(())
+/// ```
+pub fn integration_weights_at_triplet(
+    set: &WeightsSet<'_>,
+    first_weights: &mut [f64],
+    second_weights: &mut [f64],
+    flags: &mut [u8],
+) -> Result<(), Refusal> {
+    let flat = FlatWeights {
+        measures: set.measures,
+        shape: set.shape.number(),
+        width: set.shape.width(),
+        triplet: &set.triplet,
+        bands: set.bands,
+        frequencies: set.frequencies,
+    };
+    answer(flat::integration_weights_at_triplet(
+        &flat,
+        first_weights,
+        second_weights,
+        flags,
     ))
 }
 

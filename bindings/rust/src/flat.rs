@@ -1,4 +1,4 @@
-//! The four functions on numbers, arrays and slices, as the library takes them: choices are numbers, so that a call can also have one
+//! The five functions on numbers, arrays and slices, as the library takes them: choices are numbers, so that a call can also have one
 //! that is no choice, which is answered 255 ([`Refusal::Unreadable`](crate::Refusal::Unreadable)). For callers whose choices come as
 //! numbers, from a file or another language; the functions at the crate's root have types for them.
 //!
@@ -73,6 +73,23 @@ pub struct FlatTotals<'a> {
     pub first_weights: &'a [f64],
     /// g2 − g3 of each slot.
     pub second_weights: &'a [f64],
+}
+
+/// [`WeightsSet`](crate::WeightsSet) with the shape as a number beside its width and the triplet by reference. Layouts and lengths stand there.
+#[derive(Clone, Copy, Debug, PartialEq)]
+pub struct FlatWeights<'a> {
+    /// P, F and G.
+    pub measures: TotalsMeasures,
+    /// 0 Gaussian, 1 Lorentzian, 2 box.
+    pub shape: u8,
+    /// The shape's width.
+    pub width: f64,
+    /// Grid point of each leg.
+    pub triplet: &'a [i64; 3],
+    /// The first bands.
+    pub bands: &'a [i64],
+    /// Frequency of each band at each grid point.
+    pub frequencies: &'a [f64],
 }
 
 /// Calls a function of [`raw`]: a slice after `&` or `&mut` passes as its pointer and its length, another argument as it is, a reference
@@ -206,5 +223,28 @@ pub fn joined_at_triplet(
         &mut strengths,
         &mut totals,
         &mut work,
+    )
+}
+
+/// Weights from a shape.
+pub fn integration_weights_at_triplet(
+    s: &FlatWeights<'_>,
+    first_weights: &mut [f64],
+    second_weights: &mut [f64],
+    flags: &mut [u8],
+) -> u8 {
+    call!(
+        raw::wirambolo_integration_weights_at_triplet;
+        s.measures.atoms,
+        s.measures.first,
+        s.measures.grid,
+        s.shape,
+        s.width,
+        s.triplet,
+        &s.bands,
+        &s.frequencies,
+        &mut first_weights,
+        &mut second_weights,
+        &mut flags,
     )
 }

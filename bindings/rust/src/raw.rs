@@ -1,4 +1,4 @@
-//! The static library's four functions as they are. A slice passes as a pointer and then a length, an array of fixed length as a pointer
+//! The static library's five functions as they are. A slice passes as a pointer and then a length, an array of fixed length as a pointer
 //! alone.
 //!
 //! What they promise and ask of the caller stands in `include/wirambolo.h`. There is no precondition on values, contents and
@@ -177,5 +177,25 @@ extern "C" {
         totals_length: usize,
         work: *mut f64,
         work_length: usize,
+    ) -> u8;
+
+    /// Weights from a shape.
+    pub fn wirambolo_integration_weights_at_triplet(
+        atoms: usize,
+        first: usize,
+        grid: usize,
+        shape: u8,
+        width: f64,
+        triplet: *const [i64; 3],
+        bands: *const i64,
+        bands_length: usize,
+        frequencies: *const f64,
+        frequencies_length: usize,
+        first_weights: *mut f64,
+        first_weights_length: usize,
+        second_weights: *mut f64,
+        second_weights_length: usize,
+        flags: *mut u8,
+        flags_length: usize,
     ) -> u8;
 }

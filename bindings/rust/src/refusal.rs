@@ -3,7 +3,7 @@
 use std::error::Error;
 use std::fmt;
 
-/// Why a set is turned away. Of 1 to 9 the lowest that applies is given, over the whole set; a function tests what it is handed.
+/// Why a set is turned away. Of 1 to 13 the lowest that applies is given, over the whole set; a function tests what it is handed.
 /// Later editions may have more numbers.
 #[derive(Clone, Copy, Debug, PartialEq, Eq, Hash)]
 #[non_exhaustive]
@@ -27,8 +27,10 @@ pub enum Refusal {
     Bath = 8,
     /// A phase is beyond ±1,048,576 or not finite.
     Phase = 9,
-    /// A choice is neither 0 nor 1. Only calls of [`flat`](crate::flat) can be answered so: the types of the safe functions admit no such
-    /// call.
+    /// The width is zero (-0.0 too) or below.
+    Width = 13,
+    /// A choice is a number that is not known. Only calls of [`flat`](crate::flat) can be answered so: the types of the safe functions admit
+    /// no such call.
     Unreadable = 255,
 }
 
@@ -37,7 +39,7 @@ use Refusal::*;
 impl Refusal {
     /// Every refusal, by rising number.
     pub const ALL: &'static [Refusal] = &[
-        Measure, Length, Index, NotFinite, Mesh, Mass, Cutoff, Bath, Phase, Unreadable,
+        Measure, Length, Index, NotFinite, Mesh, Mass, Cutoff, Bath, Phase, Width, Unreadable,
     ];
 
     /// The number that the library answers.
@@ -65,6 +67,7 @@ impl Refusal {
             Cutoff => "cutoff",
             Bath => "bath",
             Phase => "phase",
+            Width => "width",
             Unreadable => "unreadable",
         }
     }
@@ -81,7 +84,8 @@ impl Refusal {
             Cutoff => "the cutoff is below zero",
             Bath => "the weight is beyond its limits, or the temperature has its sign bit set",
             Phase => "a phase is beyond ±1,048,576 or not finite",
-            Unreadable => "a choice is neither 0 nor 1",
+            Width => "the width is zero or below",
+            Unreadable => "a choice is a number that is not known",
         }
     }
 }

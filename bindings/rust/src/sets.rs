@@ -19,7 +19,7 @@ pub struct Measures {
     pub vectors: usize,
 }
 
-/// P, F and G, the measures of totals alone.
+/// P, F and G, the measures of totals alone and of weights from a shape.
 #[derive(Clone, Copy, Debug, PartialEq, Eq)]
 pub struct TotalsMeasures {
     /// P, atoms of the primitive cell: 1 to 8.
@@ -70,6 +70,37 @@ pub enum Weights {
     AtFrequencyPoint = 1,
 }
 
+/// What stands for the delta function of energy conservation, with its width in the unit of the frequencies. Finite, and above zero. At a
+/// distance d, each operation rounded once, a shape of width w is:
+#[derive(Clone, Copy, Debug, PartialEq)]
+pub enum Shape {
+    /// Of a width: 0.0 if |d| > 8·w, else (1 / exp((t·t) / 2))·(c / w) with t = d / w, c the f64 nearest 1/√(2π) and `exp` that of
+    /// `crates/phonon/specs/Exp.antt`.
+    Gaussian(f64),
+    /// Of a half-width: (w / (d·d + w·w))·c, c the f64 nearest 1/π.
+    Lorentzian(f64),
+    /// Of a half-width: 1 / (2·w) if |d| ≤ w, else 0.0.
+    Box(f64),
+}
+
+impl Shape {
+    /// The number that the library takes for it.
+    pub const fn number(self) -> u8 {
+        match self {
+            Shape::Gaussian(_) => 0,
+            Shape::Lorentzian(_) => 1,
+            Shape::Box(_) => 2,
+        }
+    }
+
+    /// Its width, or half-width.
+    pub const fn width(self) -> f64 {
+        match self {
+            Shape::Gaussian(width) | Shape::Lorentzian(width) | Shape::Box(width) => width,
+        }
+    }
+}
+
 /// The anchoring and the cutoff.
 #[derive(Clone, Copy, Debug, PartialEq)]
 pub struct Settings {
@@ -88,7 +119,7 @@ pub struct Bath {
     pub temperature: f64,
 }
 
-/// What every function but totals alone reads, beside triplets, flags and weights. Every f64 must be finite.
+/// What every function that works strengths reads, beside triplets, flags and weights. Every f64 must be finite.
 #[derive(Clone, Copy, Debug, PartialEq)]
 pub struct Tables<'a> {
     /// P, S, F, G and V.
@@ -194,4 +225,19 @@ pub struct JoinedSet<'a> {
     pub first_weights: &'a [f64],
     /// g2 − g3 of each slot, finite. Length F·B·B.
     pub second_weights: &'a [f64],
+}
+
+/// Weights from a shape. Every frequency must be finite.
+#[derive(Clone, Copy, Debug, PartialEq)]
+pub struct WeightsSet<'a> {
+    /// P, F and G.
+    pub measures: TotalsMeasures,
+    /// The shape with its width.
+    pub shape: Shape,
+    /// Grid point of each leg, 0 to G − 1.
+    pub triplet: [i64; 3],
+    /// The first band at position b, 0 to B − 1. Length F.
+    pub bands: &'a [i64],
+    /// Frequency of band n at grid point g, entry g·B + n. Length G·B.
+    pub frequencies: &'a [f64],
 }

@@ -1,4 +1,4 @@
-//! The four functions beside one another, on a crystal whose measures all differ; and the lengths.
+//! The functions of strengths and totals beside one another, on a crystal whose measures all differ; and the lengths.
 
 mod common;
 

@@ -1,4 +1,4 @@
-//! Every number, with buffers untouched; every length; every limit of the measures.
+//! Every number of strengths and totals, with buffers untouched; every length; every limit of the measures.
 
 mod common;
 
@@ -260,7 +260,7 @@ fn numbers_and_words() {
     let numbers: Vec<u8> = (0..=255)
         .filter(|&number| Refusal::from_number(number).is_some())
         .collect();
-    assert_eq!(numbers, [1, 2, 3, 4, 5, 6, 7, 8, 9, 255]);
+    assert_eq!(numbers, [1, 2, 3, 4, 5, 6, 7, 8, 9, 13, 255]);
     let error: Box<dyn std::error::Error> = Box::new(Refusal::Mass);
     assert_eq!(
         error.to_string(),

@@ -4,7 +4,7 @@
 
 use wirambolo::*;
 
-/// All that the four functions are handed, and what strengths, totals and work buffer hold before the call.
+/// All that the functions are handed but a shape, and what the buffers hold before the call.
 #[derive(Clone)]
 pub struct Cell {
     pub measures: Measures,
@@ -303,14 +303,14 @@ pub const ORACLE_DIGEST: u64 = 0xdb59_cc90_d6cf_1dad;
 
 /// FNV-1a of strengths and totals that the joined function leaves, cell by cell, little-endian.
 pub fn digest(cells: &[Cell]) -> u64 {
-    let mut state = 0xcbf2_9ce4_8422_2325u64;
-    for cell in cells {
-        let left = cell.joined();
-        for bits in left.strengths.iter().chain(&left.totals) {
-            for byte in bits.to_le_bytes() {
-                state = (state ^ u64::from(byte)).wrapping_mul(0x0000_0100_0000_01b3);
-            }
-        }
-    }
-    state
+    let lefts = cells.iter().map(Cell::joined);
+    let numbers = lefts.flat_map(|left| [left.strengths, left.totals].concat());
+    fnv1a(numbers.flat_map(u64::to_le_bytes))
+}
+
+/// FNV-1a, 64 bits.
+pub fn fnv1a(bytes: impl Iterator<Item = u8>) -> u64 {
+    bytes.fold(0xcbf2_9ce4_8422_2325, |state: u64, byte| {
+        (state ^ u64::from(byte)).wrapping_mul(0x0000_0100_0000_01b3)
+    })
 }
