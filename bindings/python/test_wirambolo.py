@@ -1,4 +1,4 @@
-"""Tests of wirambolo.py: the key cases M1 to M11, refusals, untouched buffers, and what may be lent.
+"""Tests of wirambolo.py: the key cases M1 to M11, weights from a shape, refusals, untouched buffers, and what may be lent.
 
     python3 -m unittest discover -s bindings/python
 """
@@ -17,9 +17,11 @@ from unittest import mock
 import example
 import wirambolo
 from wirambolo import AT_FREQUENCY_POINT, AVERAGED, COMPACT, FULL, PER_SLOT, PLAIN, SYMMETRIZED, SYMMETRY_OFF
+from wirambolo import Box, Gaussian, Lorentzian
 
 JOINED = [parameter for parameter, _ in wirambolo.SIGNATURES["wirambolo_joined_at_triplet"]]
 WRITTEN = ("strengths", "totals", "work")
+SHAPES = (Gaussian, Lorentzian, Box)  # by their numbers
 
 
 def bits(numbers):
@@ -189,6 +191,71 @@ def digest(texts):
     return state
 
 
+# ---- weights from a shape, by the formulas in include/wirambolo.h. Python's floats are f64, and each operation is rounded once; worked in
+# fractions, with each result rounded to the nearest f64, the bits were the same.
+
+def of_bits(bits):
+    return struct.unpack("<d", struct.pack("<Q", bits))[0]
+
+
+def bits_of(x):
+    """Every NaN counts as one."""
+    return 0x7FF8000000000000 if x != x else struct.unpack("<Q", struct.pack("<d", x))[0]
+
+
+def exponential(x):
+    """Document 01's, of an argument of at least 0."""
+    if x > 709.0:
+        return math.inf
+    k = float(int(x * of_bits(0x3FF71547652B82FE)))
+    r = (x - k * of_bits(0x3FE62E42FEE00000)) - k * of_bits(0x3DEA39EF35793C76)
+    p = 1.0
+    for n in range(18, 0, -1):
+        p = 1.0 + p * (r / float(n))
+    return p * 2.0**k
+
+
+def shape_at(shape, d):
+    w = shape.width
+    if isinstance(shape, Gaussian):
+        if abs(d) > 8.0 * w:
+            return 0.0
+        t = d / w
+        return (1.0 / exponential((t * t) / 2.0)) * (of_bits(0x3FD9884533D43651) / w)
+    if isinstance(shape, Lorentzian):
+        below = d * d + w * w
+        return (w / below if below > 0.0 else math.inf) * of_bits(0x3FD45F306DC9C883)
+    return 1.0 / (2.0 * w) if abs(d) <= w else 0.0
+
+
+def slot_weights(shape, f0, f1, f2):
+    """The first weight, the second and the flag."""
+    x, y, z = (shape_at(shape, d) for d in ((f0 - f1) - f2, (f0 + f1) - f2, (f0 - f1) + f2))
+    return x, y - z, int(x == 0.0 and y == 0.0 and z == 0.0)
+
+
+def slots_of(set_of_weights):
+    """Slot by slot, in the order of their numbers."""
+    count = wirambolo.bands(set_of_weights["atoms"])
+    legs = [set_of_weights["frequencies"][g * count :][:count] for g in set_of_weights["triplet"]]
+    return [
+        slot_weights(set_of_weights["shape"], legs[0][band], f1, f2)
+        for band in set_of_weights["bands"] for f1 in legs[1] for f2 in legs[2]
+    ]
+
+
+def to_weigh(cell, shape, weight=-1.0, flag=170):
+    """What weights from a shape takes of a cell, with something in both weights and the flags."""
+    slots = wirambolo.slots(cell["atoms"], cell["first"])
+    return {
+        **{name: cell[name] for name in ("atoms", "first", "grid", "triplet", "bands", "frequencies")},
+        "shape": shape,
+        "first_weights": repeated(slots, weight),
+        "second_weights": repeated(slots, weight),
+        "flags": bytearray([flag] * slots),
+    }
+
+
 class Tests(unittest.TestCase):
     @classmethod
     def setUpClass(cls):
@@ -308,6 +375,136 @@ class Tests(unittest.TestCase):
         lefts = [self.worked(cell)[1] for cell in crystals()]
         texts = [bits(left[name]) for left in lefts for name in ("strengths", "totals")]
         self.assertEqual(digest(texts), 0xDB59CC90D6CF1DAD)
+
+    def weighed(self, set_of_weights):
+        """The answer; what is left stands in the set."""
+        try:
+            self.library.integration_weights_at_triplet(**set_of_weights)
+        except wirambolo.Refused as refused:
+            return refused.number
+        return 0
+
+    def test_weights_by_bits(self):
+        """Every line of bindings/weights.txt: shape, width, the three frequencies of a slot, and what it is left, numbers by their bits.
+        The formulas give it, and the library leaves it in each slot of a set whose bands have all one frequency at a leg's grid point."""
+        lines = (Path(__file__).resolve().parents[1] / "weights.txt").read_text(encoding="utf-8").splitlines()
+        self.assertEqual(len(lines), 31)
+        for line in lines:
+            with self.subTest(line):
+                number, *numbers, flag = line.split(" ")
+                width, f0, f1, f2, first, second = (int(text, 16) for text in numbers)
+                shape = SHAPES[int(number)](of_bits(width))
+                x, y, mark = slot_weights(shape, of_bits(f0), of_bits(f1), of_bits(f2))
+                wanted = [(first, second, int(flag))]
+                self.assertEqual([(bits_of(x), bits_of(y), mark)], wanted)
+                cell = {"atoms": 1, "first": 2, "grid": 3, "triplet": [2, 0, 1], "bands": [2, 0]}
+                cell["frequencies"] = [of_bits(f) for f in (f1, f2, f0) for _ in range(3)]
+                left = to_weigh(cell, shape)
+                self.assertEqual(self.weighed(left), 0)
+                found = zip(map(bits_of, left["first_weights"]), map(bits_of, left["second_weights"]), left["flags"])
+                self.assertEqual(list(found), wanted * 18)
+
+    def test_weights_of_the_crystal(self):
+        """Every slot, whatever stands in the buffers before, and by the digests of bindings/rust/tests/weights.rs and bindings/c/test.c."""
+        for shape, wanted in (
+            (Gaussian(0.1), 0x1766C9332BEE884B),
+            (Lorentzian(0.1), 0x8452CA4E237460CD),
+            (Box(0.7), 0xB15286598BA3D741),
+        ):
+            for weight, flag in ((-1.0, 0), (math.nan, 255)):
+                left = to_weigh(crystal(), shape, weight, flag)
+                first, second, flags = zip(*slots_of(left))
+                self.assertEqual(digest([bits(first), bits(second), bytes(flags)]), wanted)
+                self.assertEqual(self.weighed(left), 0)
+                self.assertEqual(bits(left["first_weights"]), bits(first))
+                self.assertEqual(bits(left["second_weights"]), bits(second))
+                self.assertEqual(left["flags"], bytes(flags))
+
+    def test_weights_into_totals(self):
+        """The joined function takes them as they are, but for those that are not finite."""
+        for kind in SHAPES:
+            weights = to_weigh(crystal(), kind(0.7))
+            self.assertEqual(self.weighed(weights), 0)
+            lent = {name: weights[name] for name in ("first_weights", "second_weights", "flags")}
+            answer, left = self.worked({**crystal(), **lent})
+            self.assertEqual(answer, 0)
+            self.assertNotEqual(bits(left["totals"]), bits(self.worked(crystal())[1]["totals"]))
+
+            weights = to_weigh({**crystal(), "frequencies": [0.0] * 30}, kind(5e-324))
+            self.assertEqual(self.weighed(weights), 0)
+            self.assertEqual(set(weights["first_weights"]), {math.inf})
+            self.assertTrue(all(x != x for x in weights["second_weights"]))
+            self.untouched(4, {**crystal(), "first_weights": weights["first_weights"]})
+            self.untouched(4, {**crystal(), "second_weights": weights["second_weights"]})
+
+    def test_weights_refused(self):
+        cell = crystal()
+        frequencies = cell["frequencies"]
+        cases = [
+            (1, 0.1, {"atoms": 9}),
+            (1, 0.1, {"first": 7}),
+            (1, 0.1, {"grid": 0}),
+            (3, 0.1, {"triplet": [1, 5, 3]}),
+            (3, 0.1, {"bands": [5, 0, 6, 3]}),
+            (4, 0.1, {"frequencies": changed(frequencies, 29, math.nan)}),
+            (4, 0.0, {"frequencies": changed(frequencies, 29, math.inf)}),
+            (4, math.nan, {}),
+            (4, -math.inf, {}),
+            (13, 0.0, {}),
+            (13, -0.0, {}),
+            (13, -1.0, {}),
+        ]
+        whole = to_weigh(cell, None)
+        for name in ("bands", "frequencies", "first_weights", "second_weights", "flags"):
+            cases += [(2, 0.1, {name: whole[name][:-1]}), (2, 0.1, {name: whole[name] + whole[name][:1]})]
+        written = ("first_weights", "second_weights", "flags")
+        for kind in SHAPES:
+            for answer, width, change in cases:
+                with self.subTest(kind=kind, answer=answer, width=width, change=change.keys()):
+                    left = {**to_weigh(cell, kind(width)), **change}
+                    before = [bytes(left[name]) for name in written]
+                    self.assertEqual(self.weighed(left), answer)
+                    self.assertEqual([bytes(left[name]) for name in written], before)
+
+    def test_shapes(self):
+        """What is no shape, or has no width, is told of by name; a number that is not known is the library's to refuse."""
+        for shape in (0, "box", 0.1, None, Box, wirambolo.Shape(0.1)):
+            with self.subTest(shape=shape), self.assertRaisesRegex(TypeError, "^shape: "):
+                self.weighed(to_weigh(crystal(), shape))
+        for width in (None, "0.1", [0.1]):
+            with self.subTest(width=width), self.assertRaisesRegex(TypeError, "^width: "):
+                self.weighed(to_weigh(crystal(), Box(width)))
+        with self.assertRaisesRegex(OverflowError, "^width: "):
+            self.weighed(to_weigh(crystal(), Box(10**400)))
+        with self.assertRaisesRegex(TypeError, r"unknown \['width'\]"):
+            self.weighed({**to_weigh(crystal(), Box(0.1)), "width": 0.1})
+        with self.assertRaisesRegex(TypeError, r"missing \['shape'\]"):
+            self.weighed({name: value for name, value in to_weigh(crystal(), None).items() if name != "shape"})
+
+        class Other(Box):
+            number = 3
+
+        left = to_weigh({**crystal(), "atoms": 0}, Other(math.nan))
+        left["flags"] = bytearray(b"\xaa" * 144)
+        self.assertEqual(self.weighed(left), 255)
+        self.assertEqual(left["flags"], b"\xaa" * 144)
+        Other.number = 256
+        with self.assertRaisesRegex(OverflowError, "^shape: "):
+            self.weighed(left)
+
+    def test_flags_that_are_written(self):
+        """Bytes that can be written, and lent once."""
+        for flags in (array("B", [170] * 144), memoryview(bytearray(144)).cast("?"), (ctypes.c_uint8 * 144)()):
+            left = {**to_weigh(crystal(), Box(0.7)), "flags": flags}
+            self.assertEqual(self.weighed(left), 0)
+            self.assertEqual([int(flag) for flag in flags], [flag for _, _, flag in slots_of(left)])
+        for flags in ([0] * 144, bytes(144), repeated(144, 0.0)):
+            with self.subTest(flags=type(flags)), self.assertRaisesRegex(TypeError, "^flags: "):
+                self.weighed({**to_weigh(crystal(), Box(0.7)), "flags": flags})
+        weights = repeated(144, -1.0)
+        for name in ("second_weights", "frequencies"):
+            with self.subTest(name=name), self.assertRaisesRegex(ValueError, "share memory"):
+                self.weighed({**to_weigh(crystal(), Box(0.7)), "first_weights": weights, name: weights})
 
     def test_frequency_point(self):
         totals = array("d", [-1.0] * 3)

@@ -1,4 +1,4 @@
-"""Three-phonon interaction strengths and band totals: the four functions of wirambolo_c, through ctypes.
+"""Three-phonon interaction strengths and band totals: the five functions of wirambolo_c, through ctypes.
 
 The shared object is made from the static library by one command, at the top of the repository:
 
@@ -6,7 +6,7 @@ The shared object is made from the static library by one command, at the top of 
     gcc -shared -o target/shared/libwirambolo.so \\
         -Wl,--whole-archive target/staticlib/libwirambolo_c.a -Wl,--no-whole-archive
 
-`load()` opens it there, or where the environment variable WIRAMBOLO_SO says. The four functions are then methods of what
+`load()` opens it there, or where the environment variable WIRAMBOLO_SO says. The five functions are then methods of what
 it gives, and take their parameters by name:
 
     library = wirambolo.load()
@@ -15,7 +15,8 @@ it gives, and take their parameters by name:
 What each parameter holds, its length and its limits stand in include/wirambolo.h. A slice for reading is a list or tuple of
 numbers, or anything with a contiguous and aligned buffer of the right type (array.array, bytes, a numpy array); no length is handed
 over, it is that of the slice. mesh, matrix and triplet are such slices of 3, 9 and 3 numbers. A slice that is written is such a buffer:
-array.array('d', ...) or a numpy array of f64.
+array.array('d', ...) or a numpy array of f64; flags that are written a bytearray or a numpy array of bytes. A shape is handed over with its
+width, as Gaussian(width), Lorentzian(width) or Box(width).
 
 A set that is turned away raises Refused, whose `number` is the answer; nothing is changed then. What cannot be handed over, a mesh of two
 numbers too, raises TypeError, OverflowError or ValueError, which names the parameter. During a call no other thread may change the
@@ -29,7 +30,7 @@ import os
 import sys
 from pathlib import Path
 
-# ---- the four functions, as crates/wirambolo_c/src/lib.rt declares them
+# ---- the five functions, as crates/wirambolo_c/src/lib.rt declares them
 
 _MEASURES = [
     ("atoms", "usize"),
@@ -89,6 +90,19 @@ SIGNATURES = {
     ] + _BATH + _TOTALS,
     "wirambolo_joined_at_triplet":
         _MEASURES + _SETTINGS + _TRIPLET + _TABLES + _BATH + _STRENGTHS + _TOTALS + _WORK,
+    "wirambolo_integration_weights_at_triplet": [
+        ("atoms", "usize"),
+        ("first", "usize"),
+        ("grid", "usize"),
+        ("shape", "u8"),
+        ("width", "f64"),
+        ("triplet", "&[i64; 3]"),
+        ("bands", "&[i64]"),
+        ("frequencies", "&[f64]"),
+        ("first_weights", "&mut [f64]"),
+        ("second_weights", "&mut [f64]"),
+        ("flags", "&mut [u8]"),
+    ],
 }
 
 # ---- choices
@@ -97,6 +111,32 @@ PLAIN, AVERAGED = 0, 1  # anchoring
 COMPACT, FULL = 0, 1  # form
 SYMMETRY_OFF, SYMMETRIZED = 0, 1  # symmetry
 PER_SLOT, AT_FREQUENCY_POINT = 0, 1  # weights
+
+
+class Shape:
+    """What stands for the delta function of energy conservation, with its width: a Gaussian, a Lorentzian or a Box."""
+
+    def __init__(self, width):
+        self.width = width
+
+
+class Gaussian(Shape):
+    """Of a width; 0.0 at more than eight times the width."""
+
+    number = 0
+
+
+class Lorentzian(Shape):
+    """Of a half-width."""
+
+    number = 1
+
+
+class Box(Shape):
+    """Of a half-width."""
+
+    number = 2
+
 
 # ---- answers
 
@@ -110,7 +150,8 @@ REFUSALS = {
     7: "cutoff: the cutoff is below zero",
     8: "bath: the weight is beyond its limits, or the temperature has its sign bit set",
     9: "phase: a phase is beyond ±1,048,576 or not finite",
-    255: "unreadable: a choice is neither 0 nor 1",
+    13: "width: the width is zero or below",
+    255: "unreadable: a choice is a number that is not known",
 }
 
 
@@ -179,7 +220,7 @@ def parameters(name):
 
 
 def declare(shared_object):
-    """Tells ctypes the types of the four functions."""
+    """Tells ctypes the types of the five functions."""
     for name in SIGNATURES:
         function = getattr(shared_object, name)
         function.argtypes = [kind for _, kind in parameters(name)]
@@ -206,6 +247,13 @@ def _single(parameter, kind, value):
     return value
 
 
+def _shape(value):
+    """The two parameters that a shape stands for."""
+    if not isinstance(value, (Gaussian, Lorentzian, Box)):
+        raise TypeError("shape: a Gaussian, a Lorentzian or a Box is wanted")
+    return {"shape": value.number, "width": value.width}
+
+
 def _slice(parameter, kind, value):
     """The slice or array as an array of ctypes: the caller's own memory if it is written."""
     entry = _entry(kind)
@@ -214,7 +262,7 @@ def _slice(parameter, kind, value):
         view = memoryview(value)
     except TypeError:
         if written:
-            raise TypeError(f"{parameter}: a buffer is wanted, such as array.array('d', ...)") from None
+            raise TypeError(f"{parameter}: a buffer is wanted, such as array.array('{_TYPECODES[entry]}', ...)") from None
         view = memoryview(_converted(parameter, lambda numbers: array.array(_TYPECODES[entry], numbers), value))
     size = ctypes.sizeof(_TYPES[entry])
     if view.format.lstrip(_NATIVE) not in _FORMATS[entry] or view.itemsize != size or not view.c_contiguous:
@@ -249,7 +297,7 @@ def _check_apart(lent):
 
 
 class Library:
-    """The four functions of a shared object. They may be called from several threads, each with its own written slices."""
+    """The five functions of a shared object. They may be called from several threads, each with its own written slices."""
 
     def __init__(self, path):
         # A name without a folder would be looked for among the system's libraries.
@@ -272,12 +320,18 @@ class Library:
         """The strengths and the totals of one triplet."""
         self._call("wirambolo_joined_at_triplet", arguments)
 
+    def integration_weights_at_triplet(self, **arguments):
+        """The weights and the flags of one triplet, from a shape, which holds its width."""
+        self._call("wirambolo_integration_weights_at_triplet", arguments)
+
     def _call(self, name, arguments):
-        wanted = [parameter for parameter, _ in SIGNATURES[name]]
+        wanted = [parameter for parameter, _ in SIGNATURES[name] if parameter != "width"]
         if set(wanted) != set(arguments):
             missing = [p for p in wanted if p not in arguments]
             unknown = [p for p in arguments if p not in wanted]
             raise TypeError(f"{name}: missing {missing}, unknown {unknown}")
+        if "shape" in arguments:
+            arguments = {**arguments, **_shape(arguments["shape"])}
         values = []
         lent = []
         for parameter, kind in SIGNATURES[name]:
