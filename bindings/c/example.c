@@ -1,6 +1,6 @@
 /*
- * Cell U of the key cases with every slot flagged but (0, 1, 2), worked through the joined function; prints its key.
- * A set that is turned away prints `refused N`, and the exit status is 1.
+ * Cell U of the key cases, its frequencies 3, 1 and 2: weights and flags from a box of half-width 0.25, with them strengths and
+ * totals by the joined function; prints its key. A set that is turned away prints `refused N`, and the exit status is 1.
  * `make -C bindings/c` builds and runs it. From the top of the repository, by hand:
  *
  *     gcc -std=c99 -Wall -Wextra -pedantic -Iinclude -o target/example bindings/c/example.c target/staticlib/libwirambolo_c.a
@@ -70,7 +70,7 @@ int main(void)
     static const int64_t s2p[SUPERCELL] = {0};
     static const double masses[ATOMS] = {4.0};
     static const int64_t bands[FIRST] = {0, 1, 2};
-    static const double frequencies[GRID * BANDS] = {1.0, 2.0, 4.0};
+    static const double frequencies[GRID * BANDS] = {3.0, 1.0, 2.0};
     static const uint8_t shortest[ATOMS * SUPERCELL * SUPERCELL] = {0};
     static const uint8_t nonzero[ATOMS * SUPERCELL * SUPERCELL] = {1};
     static double eigenvectors[2 * GRID * BANDS * BANDS];
@@ -93,20 +93,21 @@ int main(void)
         eigenvectors[2 * (n * BANDS + n)] = 1.0;
     }
     constants[9 * 0 + 3 * 1 + 2] = 16.0;
-    for (size_t slot = 0; slot < SLOTS; slot++) {
-        flags[slot] = slot != wirambolo_slot(ATOMS, 0, 1, 2);
-        first_weights[slot] = 2.0;
-    }
 
-    answer = wirambolo_joined_at_triplet(
-        ATOMS, SUPERCELL, FIRST, GRID, VECTORS,
-        WIRAMBOLO_PLAIN, 0.5, WIRAMBOLO_COMPACT, WIRAMBOLO_SYMMETRY_OFF,
-        mesh, matrix, triplet, SLICE(addresses),
-        SLICE(vectors), SLICE(multiplicity), SLICE(p2s), SLICE(s2p), SLICE(masses),
-        SLICE(bands), SLICE(frequencies), SLICE(eigenvectors),
-        SLICE(shortest), SLICE(nonzero), SLICE(constants), SLICE(flags),
-        3, 0.0, SLICE(first_weights), SLICE(second_weights),
-        SLICE(strengths), SLICE(totals), work, work_length);
+    answer = wirambolo_integration_weights_at_triplet(
+        ATOMS, FIRST, GRID, WIRAMBOLO_BOX, 0.25, triplet, SLICE(bands), SLICE(frequencies),
+        SLICE(first_weights), SLICE(second_weights), SLICE(flags));
+    if (answer == WIRAMBOLO_ACCEPTED) {
+        answer = wirambolo_joined_at_triplet(
+            ATOMS, SUPERCELL, FIRST, GRID, VECTORS,
+            WIRAMBOLO_PLAIN, 0.5, WIRAMBOLO_COMPACT, WIRAMBOLO_SYMMETRIZED,
+            mesh, matrix, triplet, SLICE(addresses),
+            SLICE(vectors), SLICE(multiplicity), SLICE(p2s), SLICE(s2p), SLICE(masses),
+            SLICE(bands), SLICE(frequencies), SLICE(eigenvectors),
+            SLICE(shortest), SLICE(nonzero), SLICE(constants), SLICE(flags),
+            3, 1.0, SLICE(first_weights), SLICE(second_weights),
+            SLICE(strengths), SLICE(totals), work, work_length);
+    }
     free(work);
     if (answer != WIRAMBOLO_ACCEPTED) {
         printf("refused %u\n", (unsigned)answer);

@@ -1,4 +1,5 @@
-"""Cell U of the key cases with every slot flagged but (0, 1, 2), worked through the joined function; prints its key.
+"""Cell U of the key cases, its frequencies 3, 1 and 2: weights and flags from a box of half-width 0.25, with them strengths and totals by
+the joined function; prints its key.
 
     python3 bindings/python/example.py
 
@@ -42,43 +43,56 @@ def main():
     eigenvectors = [0.0] * (2 * BANDS * BANDS)
     for band in range(BANDS):
         eigenvectors[2 * (BANDS * band + band)] = 1.0
-    flags = bytearray([1] * SLOTS)
-    flags[wirambolo.slot(ATOMS, 0, 1, 2)] = 0
+    first_weights = array("d", [0.0] * SLOTS)
+    second_weights = array("d", [0.0] * SLOTS)
+    flags = bytearray(SLOTS)
 
     strengths = array("d", [0.0] * SLOTS)
     totals = array("d", [0.0] * FIRST)
     work = array("d", [0.0] * wirambolo.work_length(ATOMS, SUPERCELL))
+    # what both functions read
+    shared = {
+        "atoms": ATOMS,
+        "first": FIRST,
+        "grid": 1,
+        "triplet": [0, 0, 0],
+        "bands": [0, 1, 2],
+        "frequencies": [3.0, 1.0, 2.0],
+    }
+    library = wirambolo.load()
     try:
-        wirambolo.load().joined_at_triplet(
-            atoms=ATOMS,
+        library.integration_weights_at_triplet(
+            **shared,
+            shape=wirambolo.Box(0.25),
+            first_weights=first_weights,
+            second_weights=second_weights,
+            flags=flags,
+        )
+        library.joined_at_triplet(
+            **shared,
             supercell=SUPERCELL,
-            first=FIRST,
-            grid=1,
             vectors_count=1,
             anchoring=wirambolo.PLAIN,
             cutoff=0.5,
             form=wirambolo.COMPACT,
-            symmetry=wirambolo.SYMMETRY_OFF,
+            symmetry=wirambolo.SYMMETRIZED,
             mesh=[1, 1, 1],
             matrix=[1, 0, 0, 0, 1, 0, 0, 0, 1],
-            triplet=[0, 0, 0],
             addresses=[0, 0, 0],
             vectors=[0.0, 0.0, 0.0],
             multiplicity=[1, 0],
             p2s=[0],
             s2p=[0],
             masses=[4.0],
-            bands=[0, 1, 2],
-            frequencies=[1.0, 2.0, 4.0],
             eigenvectors=eigenvectors,
             shortest=[0],
             nonzero=[1],
             constants=constants,
             flags=flags,
             weight=3,
-            temperature=0.0,
-            first_weights=[2.0] * SLOTS,
-            second_weights=[0.0] * SLOTS,
+            temperature=1.0,
+            first_weights=first_weights,
+            second_weights=second_weights,
             strengths=strengths,
             totals=totals,
             work=work,

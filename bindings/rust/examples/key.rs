@@ -1,4 +1,5 @@
-//! Cell U of the key cases with every slot flagged but (0, 1, 2), worked through the joined function; prints its key.
+//! Cell U of the key cases, its frequencies 3, 1 and 2: weights and flags from a box of half-width 0.25, with them strengths and totals by
+//! the joined function; prints its key.
 //!
 //!     cargo run --offline --example key
 //!
@@ -16,16 +17,41 @@ const MEASURES: Measures = Measures {
 };
 const LENGTHS: Lengths = Lengths::of(&MEASURES, Form::Compact);
 
+const BANDS: [i64; 3] = [0, 1, 2];
+const FREQUENCIES: [f64; 3] = [3.0, 1.0, 2.0];
+
 fn main() -> ExitCode {
+    match key() {
+        Ok(()) => ExitCode::SUCCESS,
+        Err(refusal) => {
+            println!("refused {}", refusal.number());
+            ExitCode::FAILURE
+        }
+    }
+}
+
+fn key() -> Result<(), Refusal> {
+    let Measures {
+        atoms, first, grid, ..
+    } = MEASURES;
+    let set = WeightsSet {
+        measures: TotalsMeasures { atoms, first, grid },
+        shape: Shape::Box(0.25),
+        triplet: [0; 3],
+        bands: &BANDS,
+        frequencies: &FREQUENCIES,
+    };
+    let mut first_weights = [0.0; LENGTHS.slots];
+    let mut second_weights = [0.0; LENGTHS.slots];
+    let mut flags = [0; LENGTHS.slots];
+    integration_weights_at_triplet(&set, &mut first_weights, &mut second_weights, &mut flags)?;
+
     let mut constants = [0.0; LENGTHS.constants];
     constants[3 + 2] = 16.0;
     let mut eigenvectors = [0.0; LENGTHS.eigenvectors];
     for band in 0..3 {
         eigenvectors[2 * (3 * band + band)] = 1.0;
     }
-    let mut flags = [1; LENGTHS.slots];
-    flags[slot(1, 0, 1, 2)] = 0;
-
     let set = JoinedSet {
         tables: Tables {
             measures: MEASURES,
@@ -34,7 +60,7 @@ fn main() -> ExitCode {
                 cutoff: 0.5,
             },
             form: Form::Compact,
-            symmetry: Symmetry::Off,
+            symmetry: Symmetry::Symmetrized,
             mesh: [1; 3],
             matrix: [1, 0, 0, 0, 1, 0, 0, 0, 1],
             addresses: &[0; 3],
@@ -43,8 +69,8 @@ fn main() -> ExitCode {
             p2s: &[0],
             s2p: &[0],
             masses: &[4.0],
-            bands: &[0, 1, 2],
-            frequencies: &[1.0, 2.0, 4.0],
+            bands: &BANDS,
+            frequencies: &FREQUENCIES,
             eigenvectors: &eigenvectors,
             shortest: &[0],
             nonzero: &[1],
@@ -54,24 +80,17 @@ fn main() -> ExitCode {
         flags: &flags,
         bath: Bath {
             weight: 3,
-            temperature: 0.0,
+            temperature: 1.0,
         },
-        first_weights: &[2.0; LENGTHS.slots],
-        second_weights: &[0.0; LENGTHS.slots],
+        first_weights: &first_weights,
+        second_weights: &second_weights,
     };
     let mut strengths = [0.0; LENGTHS.slots];
     let mut totals = [0.0; LENGTHS.totals];
     let mut work = [0.0; LENGTHS.work];
-    match joined_at_triplet(&set, &mut strengths, &mut totals, &mut work) {
-        Ok(()) => {
-            print_key(&flags, &strengths, &totals);
-            ExitCode::SUCCESS
-        }
-        Err(refusal) => {
-            println!("refused {}", refusal.number());
-            ExitCode::FAILURE
-        }
-    }
+    joined_at_triplet(&set, &mut strengths, &mut totals, &mut work)?;
+    print_key(&flags, &strengths, &totals);
+    Ok(())
 }
 
 /// The slots whose flag is not set, by b, then k, then j; then the totals.
