@@ -465,6 +465,8 @@ class Tests(unittest.TestCase):
                     before = [bytes(left[name]) for name in written]
                     self.assertEqual(self.weighed(left), answer)
                     self.assertEqual([bytes(left[name]) for name in written], before)
+        with self.assertRaisesRegex(wirambolo.Refused, "^refused 13, width: "):
+            self.library.integration_weights_at_triplet(**to_weigh(cell, Box(0.0)))
 
     def test_shapes(self):
         """What is no shape, or has no width, is told of by name; a number that is not known is the library's to refuse."""
