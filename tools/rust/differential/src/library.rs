@@ -3,7 +3,7 @@
 use crate::call::{Call, Door, Foreign};
 use crate::doors::{Doors, Lent};
 use oracle::sets::{Anchoring, Form, Shape, Symmetry, Weighting};
-use wirambolo::flat::{self, FlatTables, FlatTotals};
+use wirambolo::flat::{self, FlatTables, FlatTotals, FlatWeights};
 use wirambolo::{Bath, Measures, TotalsMeasures};
 
 /// A call in the form that the library takes.
@@ -65,28 +65,7 @@ impl<'a> Handed<'a> {
     }
 }
 
-extern "C" {
-    fn wirambolo_integration_weights_at_triplet(
-        atoms: usize,
-        first: usize,
-        grid: usize,
-        shape: u8,
-        width: f64,
-        triplet: *const [i64; 3],
-        bands: *const i64,
-        bands_length: usize,
-        frequencies: *const f64,
-        frequencies_length: usize,
-        first_weights: *mut f64,
-        first_weights_length: usize,
-        second_weights: *mut f64,
-        second_weights_length: usize,
-        flags: *mut u8,
-        flags_length: usize,
-    ) -> u8;
-}
-
-/// The weights of a shape, which need no tables but bands and frequencies.
+/// The weights of a shape. They are handed few tables, and the making of a `Handed` would show in their time.
 fn weights(call: &Call, lent: Lent<'_>) -> u8 {
     let t = &call.set.strengths;
     let shape = match (call.foreign, call.shape) {
@@ -95,27 +74,19 @@ fn weights(call: &Call, lent: Lent<'_>) -> u8 {
         (_, Shape::Lorentzian(_)) => 1,
         (_, Shape::Box(_)) => 2,
     };
-    // Safety: each pointer goes with the length of its own slice.
-    unsafe {
-        wirambolo_integration_weights_at_triplet(
-            t.measures.atoms as usize,
-            t.measures.first as usize,
-            t.measures.grid as usize,
-            shape,
-            call.shape.width(),
-            &call.set.triplet,
-            t.bands.as_ptr(),
-            t.bands.len(),
-            t.frequencies.as_ptr(),
-            t.frequencies.len(),
-            lent.first_weights.as_mut_ptr(),
-            lent.first_weights.len(),
-            lent.second_weights.as_mut_ptr(),
-            lent.second_weights.len(),
-            lent.flags.as_mut_ptr(),
-            lent.flags.len(),
-        )
-    }
+    let set = FlatWeights {
+        measures: TotalsMeasures {
+            atoms: t.measures.atoms as usize,
+            first: t.measures.first as usize,
+            grid: t.measures.grid as usize,
+        },
+        shape,
+        width: call.shape.width(),
+        triplet: &call.set.triplet,
+        bands: &t.bands,
+        frequencies: &t.frequencies,
+    };
+    flat::integration_weights_at_triplet(&set, lent.first_weights, lent.second_weights, lent.flags)
 }
 
 /// The proved library.

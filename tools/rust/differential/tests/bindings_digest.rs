@@ -1,5 +1,4 @@
-//! The digest of the oracle's bits that the tests of the bindings in Rust and Python compare with: made here by the oracle itself, from
-//! the same crystals.
+//! The bits that the tests of the bindings compare with, whole or as digests: made here by the oracle itself, from the same crystals.
 
 // The crystals' file names the crate wirambolo. Here that is this test: the bindings' own types, with the oracle behind the function that
 // the digest is made by, so that no library is needed.
@@ -112,4 +111,65 @@ fn the_oracle_makes_the_digest() {
 fn python_has_the_same_digest() {
     let test = include_str!("../../../../bindings/python/test_wirambolo.py");
     assert!(test.contains(&format!("0x{:016X}", common::ORACLE_DIGEST)));
+}
+
+const SHAPES: [fn(f64) -> of_oracle::Shape; 3] = [
+    of_oracle::Shape::Gaussian,
+    of_oracle::Shape::Lorentzian,
+    of_oracle::Shape::Box,
+];
+
+/// Every line of the slots: shape, width, three frequencies, and what they give.
+#[test]
+fn the_oracle_makes_the_slots_of_the_weights() {
+    for line in include_str!("../../../../bindings/weights.txt").lines() {
+        let words: Vec<&str> = line.split(' ').collect();
+        let number = |place: usize| {
+            f64::from_bits(u64::from_str_radix(words[place], 16).expect("the bits of a number"))
+        };
+        let shape = SHAPES[words[0].parse::<usize>().expect("a shape")](number(1));
+        let (first, second, flag) = oracle::weights::slot(shape, number(2), number(3), number(4));
+        assert_eq!(first.to_bits(), number(5).to_bits(), "{line}");
+        let nan = second.is_nan() && number(6).is_nan();
+        assert!(nan || second.to_bits() == number(6).to_bits(), "{line}");
+        assert_eq!(flag.to_string(), words[7], "{line}");
+    }
+}
+
+/// The tests in all three languages hold these numbers.
+#[test]
+fn the_oracle_makes_the_digests_of_the_weights() {
+    let cell = common::crystal();
+    let tests = [
+        include_str!("../../../../bindings/rust/tests/weights.rs"),
+        include_str!("../../../../bindings/python/test_wirambolo.py"),
+        include_str!("../../../../bindings/c/test.c"),
+    ]
+    .map(|test| test.replace('_', "").to_lowercase());
+    for (shape, width) in SHAPES.into_iter().zip([0.1, 0.1, 0.7]) {
+        let set = of_oracle::WeightsSet {
+            measures: of_oracle::TotalsMeasures {
+                atoms: cell.measures.atoms as u64,
+                first: cell.measures.first as u64,
+                grid: cell.measures.grid as u64,
+            },
+            shape: shape(width),
+            triplet: cell.triplets[0],
+            bands: cell.bands.clone(),
+            frequencies: cell.frequencies.clone(),
+        };
+        let (mut first, mut second, mut flags) = (vec![0.0; 144], vec![0.0; 144], vec![0; 144]);
+        let answer = oracle::doors::integration_weights(&set, &mut first, &mut second, &mut flags);
+        assert_eq!(answer, 0);
+        let numbers = [common::bits(&first), common::bits(&second)].concat();
+        let bytes = numbers.into_iter().flat_map(u64::to_le_bytes);
+        let digest = common::fnv1a(bytes.chain(flags));
+        for test in &tests {
+            assert!(
+                test.contains(&format!("0x{digest:016x}")),
+                "{:?}",
+                set.shape
+            );
+        }
+    }
 }
