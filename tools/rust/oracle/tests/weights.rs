@@ -26,13 +26,15 @@ fn constants_are_the_nearest() {
 /// Bits from a second writing of the stated formulas, in Python's floats.
 #[test]
 fn shapes_have_the_bits_of_their_formulas() {
-    let values: [(Shape, f64, u64); 22] = [
+    let values: [(Shape, f64, u64); 24] = [
         (Gaussian(0.25), 0.0, 0x3ff9884533d43651),
         (Gaussian(0.25), -0.0, 0x3ff9884533d43651),
         (Gaussian(0.25), 0.5, 0x3fcba4b436e83ad6),
         (Gaussian(0.25), -0.5, 0x3fcba4b436e83ad6),
         (Gaussian(0.3), 0.1, 0x3ff42089fc0aaf22),
         (Gaussian(0.3), -1.7, 0x3e830010f2ef02cb),
+        // The machine's exponential gives another last bit.
+        (Gaussian(0.3), 1.9, 0x3e2645a9a8c18c52),
         (Gaussian(1e-5), 0.0, 0x40e37ac74c1ad7b0),
         (Gaussian(1e-5), 7.9e-5, 0x3e133883e2cd9b92),
         (Gaussian(1e-300), 7e-300, 0x7bedfebabc78cae4),
@@ -41,6 +43,8 @@ fn shapes_have_the_bits_of_their_formulas() {
         (Lorentzian(0.5), 1.5, 0x3fb04c26be3b06cf),
         (Lorentzian(0.7), 0.3, 0x3fd896319efc5bed),
         (Lorentzian(0.7), -12.75, 0x3f5663a999c4e899),
+        // A sum that is not rounded twice gives another last bit.
+        (Lorentzian(0.9), 1.8, 0x3fb21bb945252402),
         (Lorentzian(1e-200), 1.0, 0x164f2ff041caa695),
         (Box(0.25), 0.0, 0x4000000000000000),
         (Box(0.25), -0.0, 0x4000000000000000),
@@ -136,11 +140,43 @@ fn a_slot_is_flagged_if_all_three_shapes_are_zero() {
     // Zero by overflow.
     assert_eq!(slot(Box(f64::MAX), 0.0, 0.0, 0.0), (0.0, 0.0, 1));
     assert_eq!(slot(Lorentzian(1e160), 4.0, 1.0, 3.0), (0.0, 0.0, 1));
+    // Not zero but subnormal.
+    let (first, second, flag) = slot(Gaussian(f64::MAX / 4.0), 0.0, 0.0, 0.0);
+    assert!(first.is_subnormal() && second == 0.0 && flag == 0);
     // Sums that overflow lie nowhere near.
     assert_eq!(slot(Gaussian(1.0), f64::MAX, -f64::MAX, f64::MAX).2, 1);
     // Two infinite shapes: the second weight is kept as a NaN.
     let (first, second, flag) = slot(Box(LEAST), 0.0, 0.0, 0.0);
     assert!(first == f64::INFINITY && second.is_nan() && flag == 0);
+}
+
+/// Bits from the second writing; in another order the sums of these frequencies round to other distances.
+#[test]
+fn distances_are_summed_from_the_left() {
+    let values: [(Shape, [f64; 3], u64, u64); 3] = [
+        (
+            Gaussian(0.5),
+            [0.4, 1.6, 1.7],
+            0x3e653b36ffde4c01,
+            0x3fc75c6a073e646e,
+        ),
+        (
+            Lorentzian(0.3),
+            [4.6, 1.2, 1.4],
+            0x3f97e883f2234436,
+            0x3f49989a645a8cc0,
+        ),
+        (
+            Lorentzian(0.3),
+            [2.1, 7.4, 6.3],
+            0x3f473d266b2d7a29,
+            0xbfb40fa99101f722,
+        ),
+    ];
+    for (shape, [f0, f1, f2], first, second) in values {
+        let (one, two, flag) = slot(shape, f0, f1, f2);
+        assert_eq!((one.to_bits(), two.to_bits(), flag), (first, second, 0));
+    }
 }
 
 fn set() -> WeightsSet {
