@@ -3,6 +3,7 @@
 use oracle::doors;
 use oracle::sets::*;
 use oracle::weights::{shape_at, slot};
+use std::f64::consts::FRAC_1_PI;
 use Shape::{Box, Gaussian, Lorentzian};
 
 /// The least number above zero.
@@ -13,13 +14,12 @@ fn bits_at(shape: Shape, d: f64) -> u64 {
     shape_at(shape, d).to_bits()
 }
 
-/// Of width 1 at 0 the Lorentzian is 1/π and the Gaussian 1/√(2π); of decimal digits Rust takes the nearest f64.
+/// Of width 1 at 0 the Lorentzian is 1/π and the Gaussian 1/√(2π), of whose decimal digits Rust takes the nearest f64.
 #[test]
 #[allow(clippy::excessive_precision)]
 fn constants_are_the_nearest() {
-    let inverse_pi = 0.318_309_886_183_790_671_537_767_526_745_f64;
     let scale = 0.398_942_280_401_432_677_939_946_059_934_f64;
-    assert_eq!(bits_at(Lorentzian(1.0), 0.0), inverse_pi.to_bits());
+    assert_eq!(bits_at(Lorentzian(1.0), 0.0), FRAC_1_PI.to_bits());
     assert_eq!(bits_at(Gaussian(1.0), 0.0), scale.to_bits());
 }
 
@@ -332,7 +332,8 @@ fn width_is_13() {
 
 #[test]
 fn lowest_is_given() {
-    let changes: [(u8, fn(&mut WeightsSet)); 5] = [
+    type Change = fn(&mut WeightsSet);
+    let changes: [(u8, Change); 5] = [
         (1, |set| set.measures.grid = 0),
         (2, |set| set.bands.push(0)),
         (3, |set| set.triplet[1] = 3),
