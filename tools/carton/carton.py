@@ -82,7 +82,10 @@ TABLES = [
 BY_NAME = {table.name: table for table in TABLES}
 # a measure that is not given is counted from this table
 COUNTED_FROM = {"P": "masses", "S": "s2p", "F": "bands", "G": "addresses", "V": "vectors"}
-NAMES = ["from", *MEASURES, *CHOICES, *SCALARS, *BY_NAME]
+# what a description may give in place of these tables
+SHAPE_NAMES = ("shape", "width")
+WORKED = ("slot flags", "first weights", "second weights")
+NAMES = ["from", *MEASURES, *CHOICES, *SCALARS, *SHAPE_NAMES, *BY_NAME]
 
 
 class CartonError(Exception):
@@ -212,7 +215,12 @@ def word_from(kind, text):
         return int(text) % 2**64
     if not DECIMAL.fullmatch(text) or math.isinf(float(text)):
         return None
-    return struct.unpack("<Q", struct.pack("<d", float(text)))[0]
+    return word_of(float(text))
+
+
+def word_of(x):
+    """The bits of a number; of any NaN those that `key` prints."""
+    return 0x7FF8000000000000 if math.isnan(x) else struct.unpack("<Q", struct.pack("<d", x))[0]
 
 
 def integer_of(word):
@@ -385,23 +393,33 @@ def single(statement):
     return values[0]
 
 
-def choice_of(said, name):
-    choice, statement = CHOICES[name], said.get(name)
-    value = single(statement) if statement else choice.default
-    if value not in (choice.off, choice.on):
-        raise statement.error(f"{quoted(value)}: {choice.off} or {choice.on} was expected{strange_text(value)}")
-    return value == choice.on
+def one_of(statement, words):
+    """The one value of a statement, which is one of these words."""
+    value = single(statement)
+    if value not in words:
+        raise statement.error(f"{quoted(value)}: {', '.join(words[:-1])} or {words[-1]} was expected{strange_text(value)}")
+    return value
 
 
-def scalar_of(said, name, path):
-    kind, statement = SCALARS[name], said.get(name)
-    if statement is None:
-        raise DescriptionError(path, None, f"{name} is not given: {EXPECTED[kind]} was expected")
+def single_word(statement, kind):
+    """The word of the one value of a statement."""
     value = single(statement)
     word = word_from(kind, value)
     if word is None:
         raise statement.error(misfit_text(kind, value))
     return word
+
+
+def choice_of(said, name):
+    choice = CHOICES[name]
+    value = one_of(said[name], (choice.off, choice.on)) if name in said else choice.default
+    return value == choice.on
+
+
+def scalar_of(said, name, path):
+    if name not in said:
+        raise DescriptionError(path, None, f"{name} is not given: {EXPECTED[SCALARS[name]]} was expected")
+    return single_word(said[name], SCALARS[name])
 
 
 class Contents:
@@ -464,6 +482,10 @@ class Contents:
             raise statement.error(f"more than {MOST_WORDS} values", number)
         words.extend([word] * times)
 
+    def is_any_set(self):
+        """Whether a value other than 0 is given, or single entries, which are not looked at."""
+        return any(self.values or self.fill or []) or bool(self.changes)
+
     def count(self):
         """How many entries are listed, or None where the list is not whole."""
         parts = len(self.table.parts)
@@ -471,9 +493,7 @@ class Contents:
 
     def resolve(self, sizes, path):
         """The words of the table."""
-        table, needed = self.table, words_needed(self.table, sizes)
-        if needed > MOST_WORDS:
-            raise DescriptionError(path, None, f"{table.name}: {needed} values are more than {MOST_WORDS}: {product_text(table, sizes)}")
+        table, needed = self.table, words_wanted(self.table, sizes, path)
         if self.fill is not None:
             words = self.fill * entries_of(table, sizes)
         elif self.values is not None:
@@ -516,6 +536,14 @@ class Contents:
         return entry
 
 
+def words_wanted(table, sizes, path):
+    """The number of words of a table that a description asks for."""
+    needed = words_needed(table, sizes)
+    if needed > MOST_WORDS:
+        raise DescriptionError(path, None, f"{table.name}: {needed} values are more than {MOST_WORDS}: {product_text(table, sizes)}")
+    return needed
+
+
 def measure_of(said, letter, contents, path):
     """A measure, and what set it: a statement of its own, or the table that it is counted from."""
     statement = said.get(letter)
@@ -544,30 +572,156 @@ def form_text(said, compact):
     return f"the form is {word}, " + (f"stated at {said['form'].place()}" if "form" in said else "by default")
 
 
+# ---- weights from a shape
+#
+# What the door wirambolo_integration_weights_at_triplet writes, bit for bit: each operation is rounded once, left to right, as Python works.
+
+# 1/π and 1/√(2π)
+INVERSE_PI = number_of(0x3FD45F306DC9C883)
+GAUSSIAN_SCALE = number_of(0x3FD9884533D43651)
+# 1/ln 2, and ln 2 in two parts
+LOG2_E = number_of(0x3FF71547652B82FE)
+LN_2_HIGH = number_of(0x3FE62E42FEE00000)
+LN_2_LOW = number_of(0x3DEA39EF35793C76)
+
+
+def exponential(x):
+    """Document 01's exponential, of a number of at least 0."""
+    if x > 709.0:
+        return math.inf
+    k = int(x * LOG2_E)
+    r = (x - k * LN_2_HIGH) - k * LN_2_LOW
+    p = 1.0
+    for n in range(18, 0, -1):
+        p = 1.0 + p * (r / n)
+    return p * math.ldexp(1.0, k)
+
+
+def gaussian(w, d):
+    if abs(d) > 8.0 * w:
+        return 0.0
+    t = d / w
+    return 1.0 / exponential(t * t / 2.0) * (GAUSSIAN_SCALE / w)
+
+
+def lorentzian(w, d):
+    square = d * d + w * w
+    # of small numbers both squares are 0.0: IEEE 754 has an infinite quotient then, and Python an error
+    return (w / square if square > 0.0 else math.inf) * INVERSE_PI
+
+
+def box(w, d):
+    return 1.0 / (2.0 * w) if abs(d) <= w else 0.0
+
+
+# the shape at distance d, of width w, which is finite and above zero
+SHAPES = {"gaussian": gaussian, "lorentzian": lorentzian, "box": box}
+Shape = collections.namedtuple("Shape", "at width")
+REFUSED = "the door of weights from a shape refuses it with"
+
+
+def shape_of(said):
+    """The shape that a description gives, or None."""
+    given = [name for name in SHAPE_NAMES if name in said]
+    if not given:
+        return None
+    if len(given) == 1:
+        missing = next(name for name in SHAPE_NAMES if name not in said)
+        raise said[given[0]].error(f"given without {missing}: a shape and its width go together")
+    for name in WORKED:
+        if name in said:
+            raise said[name].error(f"given beside the shape at {said['shape'].place()}, which stands in place of {', '.join(WORKED[:-1])} and {WORKED[-1]}")
+    return Shape(SHAPES[one_of(said["shape"], tuple(SHAPES))], number_of(single_word(said["width"], "number")))
+
+
+def expect_accepted(shape, sizes, tables, said):
+    """Turns away what the door refuses, as there are no weights then; the number is the door's, the lowest that applies. The limits of the
+    measures, number 1, are left to `key`."""
+    for name, size in (("triplet", "G"), ("bands", "B")):
+        allowed = f"0 to {sizes[size] - 1} was expected" if sizes[size] else "none is there"
+        expect_all(name, lambda word, size=size: word < sizes[size], f"{allowed}; {REFUSED} 3{sizes.origin_text(size)}", sizes, tables, said)
+    expect_all("frequencies", lambda word: math.isfinite(number_of(word)), f"a finite number was expected; {REFUSED} 4", sizes, tables, said)
+    if not (math.isfinite(shape.width) and shape.width > 0.0):
+        number = 13 if math.isfinite(shape.width) else 4
+        raise said["width"].error(f"{quoted(single(said['width']))}: a finite number above zero was expected; {REFUSED} {number}")
+
+
+def expect_all(name, fits, text, sizes, tables, said):
+    """Turns away a number of a table that does not fit, with this text behind it."""
+    table = BY_NAME[name]
+    for place, word in enumerate(tables[name]):
+        if not fits(word):
+            raise said[name].error(f"{place_at(table, sizes, place)}, {quoted(text_from(table.kind, word))}: {text}")
+
+
+def slot_of(shape, f0, f1, f2):
+    """The flag, the first and the second weight of a slot whose bands have these frequencies."""
+    one, two, three = (shape.at(shape.width, d) for d in ((f0 - f1) - f2, (f0 + f1) - f2, (f0 - f1) + f2))
+    return int(one == 0.0 and two == 0.0 and three == 0.0), one, two - three
+
+
+def worked_tables(shape, sizes, tables):
+    """The words of the tables that a shape stands in place of."""
+    bands = sizes["B"]
+    legs = [[number_of(word) for word in tables["frequencies"][point * bands:(point + 1) * bands]] for point in tables["triplet"]]
+    slots = [slot_of(shape, legs[0][band], f1, f2) for band in tables["bands"] for f1 in legs[1] for f2 in legs[2]]
+    return {
+        "slot flags": [flag for flag, _, _ in slots],
+        "first weights": [word_of(first) for _, first, _ in slots],
+        "second weights": [word_of(second) for _, _, second in slots],
+    }
+
+
+# ---- a description as a carton
+
 # the words of the carton, without the zeros behind them; the sizes; the words of each single value and table by its name; the last statement
-# of each name; what tells the files that were read
-Description = collections.namedtuple("Description", "words sizes held said files")
+# of each name; the slot flags, not all 0, that gave way to those of a shape; what tells the files that were read
+Description = collections.namedtuple("Description", "words sizes held said replaced files")
+
+
+def merged(layers):
+    """What the layers say together: the contents of each table, the last statement of each name, and the flags that gave way."""
+    contents, said, replaced = {table.name: Contents(table) for table in TABLES}, {}, None
+    for layer in layers:
+        if "shape" in layer:
+            # it stands in place of what the layers before say of these tables
+            replaced = contents["slot flags"].statement if contents["slot flags"].is_any_set() else replaced
+            contents.update((name, Contents(BY_NAME[name])) for name in WORKED)
+            said = {name: statement for name, statement in said.items() if name not in WORKED}
+        said.update(layer)
+        for name, statement in layer.items():
+            if name in contents:
+                contents[name].take(statement)
+    return contents, said, replaced
+
+
+def resolved(contents, said, sizes, path):
+    """The words of each table, in file order."""
+    shape = shape_of(said)
+    if shape is None:
+        return {table.name: contents[table.name].resolve(sizes, path) for table in TABLES}
+    for name in WORKED:
+        words_wanted(BY_NAME[name], sizes, path)
+    tables = {table.name: contents[table.name].resolve(sizes, path) for table in TABLES if table.name not in WORKED}
+    expect_accepted(shape, sizes, tables, said)
+    tables.update(worked_tables(shape, sizes, tables))
+    return {table.name: tables[table.name] for table in TABLES}
 
 
 def read_description(path):
     """The carton that a description asks for."""
     layers, files = layers_of(path)
-    contents, said = {table.name: Contents(table) for table in TABLES}, {}
-    for layer in layers:
-        said.update(layer)
-        for name, statement in layer.items():
-            if name in contents:
-                contents[name].take(statement)
+    contents, said, replaced = merged(layers)
     on = {name: choice_of(said, name) for name in CHOICES}
     measured = {letter: measure_of(said, letter, contents, path) for letter in MEASURES}
     sizes = Sizes({letter: value for letter, (value, _) in measured.items()}, on["form"])
     sizes.set_by({letter: origin for letter, (_, origin) in measured.items()}, form_text(said, on["form"]))
     held = {name: [scalar_of(said, name, path)] for name in SCALARS}
-    held.update((table.name, contents[table.name].resolve(sizes, path)) for table in TABLES)
+    held.update(resolved(contents, said, sizes, path))
     words = [EDITION, *(sizes[letter] for letter in MEASURES), sum(on[name] << choice.bit for name, choice in CHOICES.items())]
     for part in held.values():
         words += part
-    return Description(words, sizes, held, said, files)
+    return Description(words, sizes, held, said, replaced, files)
 
 
 # ---- blocks
@@ -605,6 +759,7 @@ def notes_on(description):
     yield from size_notes(description)
     yield from temperature_notes(description)
     yield from address_notes(description)
+    yield from shape_notes(description)
 
 
 def size_notes(description):
@@ -634,6 +789,22 @@ def address_notes(description):
     if any(total % size for total, size in zip(sums, mesh)):
         yield (f"{description.said['triplet'].place()}: triplet: the addresses of its points add up to {' '.join(map(str, sums))}; "
                f"those of a physical triplet add up to multiples of the mesh, {' '.join(map(str, mesh))}")
+
+
+def shape_notes(description):
+    """Flags that gave way to those of a shape, and weights from it that are beyond an f64."""
+    if "shape" not in description.said:
+        return
+    if description.replaced:
+        yield f"{description.replaced.place()}: slot flags: the shape at {description.said['shape'].place()} gives others in their place"
+    weights = zip(description.held["first weights"], description.held["second weights"])
+    slots = [n for n, pair in enumerate(weights) if not all(math.isfinite(number_of(word)) for word in pair)]
+    if slots:
+        table = BY_NAME["first weights"]
+        names = ", ".join(" ".join(map(str, index_at(table, description.sizes, n))) for n in slots[:5])
+        more = f" and {len(slots) - 5} more" if len(slots) > 5 else ""
+        yield (f"{description.said['width'].place()}: width: a weight is infinite or a NaN in {len(slots)} of {entries_of(table, description.sizes)} slots, "
+               f"{names}{more}: `key` refuses this carton with 4")
 
 
 # ---- showing a carton
