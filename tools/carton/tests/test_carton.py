@@ -1,8 +1,14 @@
-"""Tests of carton.py: `python3 -m unittest` in this folder. With KEY set to a program, its prints of the key cases are compared too."""
+"""Tests of carton.py: `python3 -m unittest` in this folder. With KEY set to a program, its prints of the examples are compared too, with
+WIRAMBOLO_SO set to the shared object of the doors, weights from a shape."""
+import collections
 import contextlib
+import ctypes
 import hashlib
 import io
+import math
 import os
+import random
+import re
 import resource
 import socket
 import stat
@@ -11,6 +17,7 @@ import subprocess
 import sys
 import tempfile
 import time
+import types
 import unittest
 from pathlib import Path
 from unittest import mock
@@ -207,8 +214,15 @@ class RoundTrip(Described):
 
     def test_no_bands(self):
         """Tables of no length: `key` refuses them with 1, and the carton is well made."""
-        file = carton_of(self.changed("bands:\n"))
-        self.assertEqual(self.back(file), file)
+        for text in ("bands:\n", "bands:\nshape: box\nwidth: 1\n"):
+            file = carton_of(self.changed(text))
+            self.assertEqual(self.back(file), file)
+
+    def test_shape(self):
+        """The weights come back, not the shape; infinite ones and NaNs too."""
+        for width in ("0.3", "5e-324"):
+            file = carton_of(self.changed(f"frequencies: 0.1 0.2 0.3\nshape: gaussian\nwidth: {width}\n"))
+            self.assertEqual(self.back(file), file)
 
 
 # ---- bad descriptions
@@ -290,6 +304,35 @@ ERRORS = [
     ("slot flags:\n    0 3 1 = 1\n", "j 3: 0 to 2 was expected; B = 3·P; P = 1 is counted from masses at {u}:24"),
     # the list is at fault, not the statement that changes an entry of it
     ("P: 2\nmultiplicity:\n    0 0 = 1 0\n", "{u}:21: multiplicity: 2 values where 4 were expected"),
+    # a shape
+    ("shape: box\n", "own.txt:2: shape: given without width: a shape and its width go together"),
+    ("width: 1\n", "own.txt:2: width: given without shape: a shape and its width go together"),
+    ("width: 1\nfirst weights: all 1\n", "own.txt:2: width: given without shape"),
+    ("shape: cauchy\nwidth: 1\n", "own.txt:2: shape: `cauchy`: gaussian, lorentzian or box was expected"),
+    ("shape: Box\nwidth: 1\n", "own.txt:2: shape: `Box`: gaussian, lorentzian or box was expected"),
+    ("shape: box 1\nwidth: 1\n", "own.txt:2: shape: 2 values where one was expected"),
+    ("shape: box\nwidth:\n", "own.txt:3: width: 0 values where one was expected"),
+    ("shape: box\nwidth: wide\n", "own.txt:3: width: `wide`: a decimal"),
+    ("shape: box\nwidth: 1e999\n", "own.txt:3: width: `1e999`: a decimal"),
+    ("shape: box\nwidth: 0,5\n", "a decimal comma is not taken: write `0.5`"),
+    ("shape: box\nwidth: 1\nslot flags: all 0\n", "own.txt:4: slot flags: given beside the shape at {own}:2, which stands in place of slot flags, first weights and second weights"),
+    ("slot flags:\n    0 1 2 = 1\nwidth: 1\nshape: box\n", "own.txt:2: slot flags: given beside the shape at {own}:5"),
+    ("shape: box\nwidth: 1\nfirst weights: all 2\n", "own.txt:4: first weights: given beside the shape at {own}:2"),
+    ("shape: box\nwidth: 1\nsecond weights:\n    0 0 0 = 1\n", "own.txt:4: second weights: given beside the shape at {own}:2"),
+    ("bands: 120000*0\nshape: box\nwidth: 1\n", "slot flags: 1080000 values are more than 1000000: 120000 (F) · 3 (B) · 3 (B)"),
+    # what its door refuses: the lowest number that applies
+    ("shape: box\nwidth: 0\n", "own.txt:3: width: `0`: a finite number above zero was expected; the door of weights from a shape refuses it with 13"),
+    ("shape: gaussian\nwidth: -0.0\n", "own.txt:3: width: `-0.0`: a finite number above zero was expected; the door of weights from a shape refuses it with 13"),
+    ("shape: lorentzian\nwidth: -5e-324\n", "width: `-5e-324`: a finite number above zero was expected; the door of weights from a shape refuses it with 13"),
+    ("shape: box\nwidth: 0x7ff0000000000000\n", "width: `0x7ff0000000000000`: a finite number above zero was expected; the door of weights from a shape refuses it with 4"),
+    ("shape: box\nwidth: 0xfff0000000000000\n", "width: `0xfff0000000000000`: a finite number above zero was expected; the door of weights from a shape refuses it with 4"),
+    ("shape: box\nwidth: 0x7ff8000000000000\n", "width: `0x7ff8000000000000`: a finite number above zero was expected; the door of weights from a shape refuses it with 4"),
+    ("shape: box\nwidth: 0\nfrequencies: 1 0x7ff0000000000000 4\n", "own.txt:4: frequencies: grid point 0, band 1, `0x7ff0000000000000`: a finite number was expected; the door of weights from a shape refuses it with 4"),
+    ("shape: box\nwidth: 1\nbands: 0 3\nfrequencies: all 0x7ff8000000000000\n", "own.txt:4: bands: position 1, `3`: 0 to 2 was expected; the door of weights from a shape refuses it with 3; B = 3·P; P = 1 is counted from masses at {u}:24"),
+    ("shape: box\nwidth: 1\nbands: -1\n", "bands: position 0, `-1`: 0 to 2 was expected; the door of weights from a shape refuses it with 3"),
+    ("shape: box\nwidth: 1\ntriplet: 0 0 1\n", "own.txt:4: triplet: third point, `1`: 0 to 0 was expected; the door of weights from a shape refuses it with 3; G = 1 is counted from addresses at {u}:18"),
+    ("shape: box\nwidth: 1\ntriplet: 0 -1 0\n", "triplet: second point, `-1`: 0 to 0 was expected"),
+    ("shape: box\nwidth: 1\naddresses:\nfrequencies:\neigenvectors:\n", "{u}:17: triplet: first point, `0`: none is there; the door of weights from a shape refuses it with 3"),
 ]
 
 
@@ -439,6 +482,26 @@ class Notes(Described):
             with self.subTest(text):
                 self.assertEqual(self.notes(text), [])
 
+    def test_infinite_weights(self):
+        """Weights from a shape that `key` refuses; those that are typed are no concern."""
+        self.assertEqual(self.notes("shape: box\nwidth: 0.5\n"), [])
+        self.assertEqual(self.notes("frequencies: 0 1 4\nbands: 0 1\nshape: box\nwidth: 5e-324\n"), [
+            f"{self.folder}/own.txt:5: width: a weight is infinite or a NaN in 5 of 18 slots, 0 0 0, 0 1 1, 0 2 2, 1 0 1, 1 1 0: `key` refuses this carton with 4"])
+        self.assertEqual(self.notes("width: 1e-200\nfrequencies: all 0\nshape: lorentzian\n"), [
+            f"{self.folder}/own.txt:2: width: a weight is infinite or a NaN in 27 of 27 slots, 0 0 0, 0 0 1, 0 0 2, 0 1 0, 0 1 1 and 22 more: `key` refuses this carton with 4"])
+        self.assertEqual(self.notes("first weights: all 0x7ff0000000000000\n"), [])
+
+    def test_replaced_flags(self):
+        """Flags that a shape replaces, if they are other than all 0, as cell U's are."""
+        base, between = self.folder / "base.txt", self.folder / "between.txt"
+        between.write_text("from: base.txt\nshape: box\nwidth: 0.5\n")
+        for flags in ("slot flags: all 1\n", "slot flags:\n    0 1 2 = 1\n", "slot flags: 26*0 1\n"):
+            base.write_text("from: u.txt\n" + flags)
+            for text, shape in ((between.read_text(), "own.txt:2"), ("from: between.txt\nwidth: 0.25\n", "between.txt:2"), ("from: between.txt\nshape: gaussian\n", "own.txt:2")):
+                with self.subTest(flags + text):
+                    notes = list(carton.notes_on(carton.read_description(self.described(text))))
+                    self.assertEqual(notes, [f"{base}:2: slot flags: the shape at {self.folder}/{shape} gives others in their place"])
+
     def test_examples(self):
         """The examples are made without a note."""
         for path in sorted(EXAMPLES.glob("*.txt")):
@@ -459,6 +522,370 @@ class Notes(Described):
                 told = shell(f"$CARTON make own.txt > own.carton {where}", self.folder)
                 self.assertEqual((told.returncode, told.stderr), (0, ""))
                 self.assertEqual((self.folder / "own.carton").read_bytes(), carton_of(self.folder / "own.txt"))
+
+
+# ---- weights from a shape
+
+# width, distance and the value's bits, worked in whole numbers: inside, at the edge, beyond it, and where a number is too large or too small for an f64
+VALUES = {
+    "gaussian": [
+        (0.5, 0.0, 0x3FE9884533D43651),
+        (0.5, 0.5, 0x3FDEF8E58E331738),
+        (0.5, -1.3, 0x3F9BD163452149B8),
+        (0.5, 4.0, 0x3D06C0DF3A094836),
+        (0.5, -4.0, 0x3D06C0DF3A094836),
+        (0.5, 4.000000000000001, 0),
+        (0.5, -4.000000000000001, 0),
+        (0.5, 5.0, 0),
+        (0.1, 0.3, 0x3FA6B0E98FCD5431),
+        (0.1, 0.7, 0x3DD91BFCEFE51DD0),
+        (0.1, 0.7999999999999999, 0x3D2C7117088B9A7A),
+        (0.1, 0.8, 0x3D2C7117088B9A43),
+        (0.1, 0.8000000000000002, 0),
+        (0.3, 1.0, 0x3F750EA7E2AFD3E2),
+        (1.9999999999999998, 15.999999999999998, 0x3CE6C0DF3A094836),
+        (1.9999999999999998, 16.0, 0),
+        (1e300, 1e300, 0x0184BDECF83E9CC6),
+        (1.7976931348623157e308, 0.0, 0x00019884533D4365),
+        (1.7976931348623157e308, 1.7976931348623157e308, 0x0000F7C72C7198BA),
+        (1.7976931348623157e308, math.inf, 0),
+        (1e-308, 5e-308, 0x7EABC0019E1188F1),
+        (5e-324, 4e-323, 0x7FF0000000000000),
+        (5e-324, 4.4e-323, 0),
+    ],
+    "lorentzian": [
+        (0.5, 0.0, 0x3FE45F306DC9C883),
+        (0.5, 0.5, 0x3FD45F306DC9C883),
+        (0.5, 3.0, 0x3F919E6F12D8075D),
+        (0.1, -0.7, 0x3FB04C26BE3B06D0),
+        (0.1, 1e10, 0x3B780D0236478ACD),
+        (1e-160, 3e-161, 0x610A96F1C5037204),
+        (1e-200, 1e-200, 0x7FF0000000000000),
+        (1e-200, 0.001, 0x178DBE13BC7E6746),
+        (5e-324, 0.0, 0x7FF0000000000000),
+        (5e-324, 1.0, 0),
+        (1e154, 1e154, 0),
+        (1.7976931348623157e308, 0.0, 0),
+        (1.0, 1e200, 0),
+        (1.0, -math.inf, 0),
+    ],
+    "box": [
+        (0.25, 0.0, 0x4000000000000000),
+        (0.25, 0.25, 0x4000000000000000),
+        (0.25, -0.25, 0x4000000000000000),
+        (0.25, 0.25000000000000006, 0),
+        (0.25, -0.25000000000000006, 0),
+        (0.25, -math.inf, 0),
+        (0.3, 0.1, 0x3FFAAAAAAAAAAAAB),
+        (0.3, 0.3, 0x3FFAAAAAAAAAAAAB),
+        (0.3, 0.30000000000000004, 0),
+        (5.562684646268003e-309, 0.0, 0x7FE0000000000000),
+        (5e-324, 5e-324, 0x7FF0000000000000),
+        (5e-324, 1e-323, 0),
+        (1.7976931348623157e308, 0.0, 0),
+    ],
+}
+
+# three grid points, of which the triplet takes the last first: f1 of the first, f2 of the second, f0 of the third
+THREE_POINTS = "addresses: 0 0 0  1 0 0  2 0 0\nmesh: 3 1 1\ntriplet: 2 0 1\neigenvectors: all 1 0\n"
+DECIMALS = THREE_POINTS + "bands: 1\nfrequencies: 0.7 1.9 3.1  1.1 2.3 3.7  9 3.3 0\n"
+INFINITE, NAN = 0x7FF0000000000000, 0x7FF8000000000000
+# a change to cell U, the number of its slots, and flag, first and second weight of each that is not flagged, by number; worked as the values above
+SLOTS = [
+    (DECIMALS + "shape: gaussian\nwidth: 0.2\n", 9, {
+        0: (0, 0x3D75699A3EEDE709, 0),
+        1: (0, 0x3FE4B90A6C86A62E, 0),
+        2: (0, 0x3EA21193A3B725A1, 0x3FE4B90A6C86A62E),
+        3: (0, 0x3FE4B90A6C86A62E, 0),
+        4: (0, 0x3F14F340E80C4ECC, 0),
+        5: (0, 0, 0x3D75699A3EEDE74A),
+        6: (0, 0x3F14F340E80C4E82, 0xBE16EE6AC59D9E46),
+    }),
+    (DECIMALS + "shape: lorentzian\nwidth: 0.3\n", 9, {
+        0: (0, 0x3FA4E4E9772ADACB, 0x3F71A1BEDD3C6D90),
+        1: (0, 0x3FE0F9FDB0D2D1C5, 0x3F9CC1984713F2A8),
+        2: (0, 0x3FB2CE0551A691AF, 0x3FE0E6536BADF4BB),
+        3: (0, 0x3FE0F9FDB0D2D1C5, 0xBF834657935D8422),
+        4: (0, 0x3FBB2995E7B7B605, 0x3F71A1BEDD3C6D96),
+        5: (0, 0x3F922CF4F669CC96, 0x3FA3055AB6A2994A),
+        6: (0, 0x3FBB2995E7B7B5FE, 0xBFA9BB8E0A727148),
+        7: (0, 0x3F95BADE52F95E6A, 0xBF834657935D8426),
+        8: (0, 0x3F7FB2651360F595, 0x3F7B6F6BB40DAA3F),
+    }),
+    # by hand: 12 = 4 + 8, 2 + 3 = 5 and 2 + 2 = 4
+    (THREE_POINTS + "bands: 2 0\nfrequencies: 1 3 4  2 5 8  2 6 12\nshape: box\nwidth: 0.5\n", 18, {
+        8: (0, bits(1.0), 0),
+        13: (0, 0, bits(1.0)),
+        15: (0, 0, bits(-1.0)),
+    }),
+    # two shapes that are alike leave no weight, and no flag
+    ("frequencies: 1 100 10000\nbands: 0\nshape: box\nwidth: 2\n", 9, {0: (0, bits(0.25), 0), 4: (0, 0, 0), 8: (0, 0, 0)}),
+    # infinite, and infinite less infinite
+    ("frequencies: 0 1 4\nbands: 0 1\nshape: box\nwidth: 5e-324\n", 18, {
+        0: (0, INFINITE, NAN),
+        4: (0, 0, NAN),
+        8: (0, 0, NAN),
+        10: (0, INFINITE, INFINITE),
+        12: (0, INFINITE, INFINITE + 2**63),
+    }),
+    # the sum of the first two is infinite, and so are eight widths
+    ("frequencies: all 1.7976931348623157e308\nbands: 0\nshape: gaussian\nwidth: 1.7976931348623157e308\n", 9,
+     dict.fromkeys(range(9), (0, 0x0000F7C72C7198BA, 0x8000F7C72C7198BA))),
+]
+
+# text of carton.py and a mistake in its place
+MISTAKES = [
+    # the Gaussian: its edge, its order of operations, its constant
+    ("abs(d) > 8.0 * w", "abs(d) >= 8.0 * w"),
+    ("abs(d) > 8.0 * w", "abs(d) > 7.0 * w"),
+    ("abs(d) > 8.0 * w", "d > 8.0 * w"),
+    ("1.0 / exponential(t * t / 2.0) * (GAUSSIAN_SCALE / w)", "1.0 / exponential(t * t / 2.0) * GAUSSIAN_SCALE / w"),
+    ("1.0 / exponential(t * t / 2.0) * (GAUSSIAN_SCALE / w)", "GAUSSIAN_SCALE / w / exponential(t * t / 2.0)"),
+    ("1.0 / exponential(t * t / 2.0)", "1.0 / math.exp(t * t / 2.0)"),
+    ("1.0 / exponential(t * t / 2.0)", "1.0 / exponential(d * d / (w * w) / 2.0)"),
+    ("0x3FD9884533D43651", "0x3FD9884533D43650"),
+    # the exponential
+    ("range(18, 0, -1)", "range(12, 0, -1)"),
+    ("(x - k * LN_2_HIGH) - k * LN_2_LOW", "x - k * (LN_2_HIGH + LN_2_LOW)"),
+    ("x > 709.0", "x > 1e400"),
+    # the Lorentzian
+    ("w / square if square > 0.0 else math.inf", "w / square"),
+    ("(w / square if square > 0.0 else math.inf) * INVERSE_PI", "w * INVERSE_PI / square if square > 0.0 else math.inf"),
+    ("square = d * d + w * w", "square = math.hypot(d, w) ** 2"),
+    ("0x3FD45F306DC9C883", "0x3FD45F306DC9C882"),
+    # the box
+    ("abs(d) <= w", "abs(d) < w"),
+    ("abs(d) <= w", "d <= w"),
+    ("1.0 / (2.0 * w)", "0.5 / w"),
+    # the slot
+    ("(f0 - f1) - f2", "f0 - (f1 + f2)"),
+    ("(f0 + f1) - f2", "f0 + (f1 - f2)"),
+    ("(f0 - f1) + f2", "f0 - (f1 - f2)"),
+    ("two - three", "three - two"),
+    ("one == 0.0 and two == 0.0 and three == 0.0", "one == 0.0 and two - three == 0.0"),
+    ("one == 0.0 and two == 0.0 and three == 0.0", "two == 0.0 and three == 0.0"),
+    # the tables
+    ("legs[0][band]", "legs[1][band]"),
+    ("for f1 in legs[1] for f2 in legs[2]", "for f1 in legs[2] for f2 in legs[1]"),
+    ("for f1 in legs[1] for f2 in legs[2]", "for f2 in legs[2] for f1 in legs[1]"),
+    ('for band in tables["bands"]', 'for band in range(len(tables["bands"]))'),
+    ('for point in tables["triplet"]]', 'for point in sorted(tables["triplet"])]'),
+]
+
+
+def mistaken(right, wrong):
+    """carton.py with a mistake."""
+    text = COMMAND.read_text()
+    assert text.count(right) == 1, right
+    module = types.ModuleType("mistaken")
+    exec(compile(text.replace(right, wrong), "mistaken", "exec"), module.__dict__)
+    return module
+
+
+def slots_of(description):
+    """Flag, first and second weight of each slot."""
+    return list(zip(*(description.held[name] for name in ("slot flags", "first weights", "second weights"))))
+
+
+class Shapes(Described):
+    def wrong_answers(self, module):
+        """The cases above in which a module answers otherwise."""
+        for shape, values in VALUES.items():
+            for width, distance, value in values:
+                if module.word_of(module.SHAPES[shape](width, distance)) != value:
+                    yield shape, width, distance
+        for text, length, slots in SLOTS:
+            if slots_of(module.read_description(self.changed(text))) != [slots.get(n, (1, 0, 0)) for n in range(length)]:
+                yield text
+
+    def test_answers(self):
+        self.assertEqual(list(self.wrong_answers(carton)), [])
+
+    def test_mistakes(self):
+        """The cases find each mistake; an error of Python's is found too."""
+        for right, wrong in MISTAKES:
+            with self.subTest(wrong):
+                module = mistaken(right, wrong)
+                try:
+                    self.assertNotEqual(next(self.wrong_answers(module), None), None)
+                except (ArithmeticError, LookupError):
+                    pass
+
+    def test_rest(self):
+        """Nothing else of the carton depends on the shape."""
+        plain, shaped = (carton.read_description(self.changed(text)).held for text in ("", "shape: box\nwidth: 0.5\n"))
+        self.assertEqual([name for name in plain if plain[name] != shaped[name]], ["slot flags", "first weights", "second weights"])
+        self.assertEqual(list(plain), list(shaped))
+
+    def test_layers(self):
+        """A shape replaces the tables of the description that it starts from, and is changed as any statement is."""
+        base = self.folder / "base.txt"
+        slots = slots_of(carton.read_description(self.changed("shape: box\nwidth: 0.5\n")))
+        for below, text in (("first weights: 27*1\nslot flags: all 1\n", "shape: box\nwidth: 0.5\n"), ("shape: gaussian\nwidth: 0.5\n", "shape: box\n"),
+                            ("shape: box\nwidth: 4\n", "width: 0.5\n"), ("width: 0.5\n", "shape: box\n"), ("shape: box\n", "width: 0.5\n")):
+            with self.subTest(below):
+                base.write_text("from: u.txt\n" + below)
+                self.assertEqual(slots_of(carton.read_description(self.described("from: base.txt\n" + text))), slots)
+
+    def test_replaced_lists(self):
+        """Tables that are replaced need not fit any more."""
+        (self.folder / "base.txt").write_text("from: u.txt\nfirst weights: 27*1\nsecond weights: 27*1\nslot flags: 27*0\n")
+        self.assertEqual(len(slots_of(carton.read_description(self.described("from: base.txt\nbands: 0 2\nshape: box\nwidth: 1\n")))), 18)
+
+    def test_tables_above(self):
+        """A table of these above a shape is turned away, whether it gives all or single entries."""
+        (self.folder / "base.txt").write_text("from: u.txt\nshape: box\nwidth: 0.5\n")
+        for text in ("slot flags: all 0\n", "first weights:\n    0 1 2 = 1\n", "second weights: all 0\nwidth: 1\n"):
+            with self.subTest(text), self.assertRaises(carton.DescriptionError) as caught:
+                carton.read_description(self.described("from: base.txt\n" + text))
+            self.assertIn(f"own.txt:2: {text.partition(':')[0]}: given beside the shape at {self.folder}/base.txt:2", str(caught.exception))
+
+    def test_tables_between(self):
+        """So too where the width alone is given above them."""
+        (self.folder / "base.txt").write_text("from: u.txt\nshape: box\nwidth: 0.5\n")
+        (self.folder / "flagged.txt").write_text("from: base.txt\nslot flags: all 1\n")
+        with self.assertRaises(carton.DescriptionError) as caught:
+            carton.read_description(self.described("from: flagged.txt\nwidth: 1\n"))
+        self.assertIn("flagged.txt:2: slot flags: given beside the shape", str(caught.exception))
+
+
+# ---- weights from a shape, as the door works them
+
+DOOR = "wirambolo_integration_weights_at_triplet"
+# the numbers of the shapes from C
+NUMBERS = {"gaussian": 0, "lorentzian": 1, "box": 2}
+# a crystal of no interest around the numbers that weights are worked from
+AROUND = """
+S: 1
+V: 1
+weight: 1
+cutoff: 0
+temperature: 0
+mesh: 1 1 1
+q matrix: 1 0 0  0 1 0  0 0 1
+addresses: all 0 0 0
+vectors: all 0 0 0
+multiplicity: all 1 0
+p2s: all 0
+s2p: 0
+masses: all 1
+eigenvectors: all 0 0
+force constants: all 0
+"""
+
+
+class Set:
+    """What the door is handed, from a source of random numbers; frequencies and width as bits."""
+
+    def __init__(self, source):
+        self.atoms, self.grid, self.shape = source.choice((1, 2)), source.randint(1, 3), source.choice(list(NUMBERS))
+        bands = 3 * self.atoms
+        self.bands = source.choices(range(bands), k=source.randint(1, bands))
+        self.triplet = source.choices(range(self.grid), k=3)
+        kind = source.choice((self.plain, self.coarse, self.small, self.large, self.any))
+        self.frequencies = [bits(kind(source)) for _ in range(self.grid * bands)]
+        self.width = source.choice((self.like, self.like, self.edge, self.edge, self.free))(source, kind)
+        if source.random() < 0.1:
+            self.damage(source)
+
+    @staticmethod
+    def plain(source):
+        return source.uniform(-1.0, 20.0)
+
+    @staticmethod
+    def coarse(source):
+        """Sums and differences are often alike."""
+        return 0.5 * source.randint(-1, 12)
+
+    @staticmethod
+    def small(source):
+        return source.choice((-1.0, 1.0)) * 2.0 ** -source.randint(500, 1074) * source.randint(0, 7)
+
+    @staticmethod
+    def large(source):
+        return source.choice((-1.0, 1.0)) * 2.0 ** source.randint(480, 1023) * source.uniform(1.0, 1.99)
+
+    @staticmethod
+    def any(source):
+        return source.choice((-1.0, 1.0)) * carton.number_of(source.randrange(INFINITE))
+
+    def like(self, source, kind):
+        """A width such as the frequencies are, or a part of it."""
+        return max(bits(abs(kind(source)) / source.choice((1.0, 8.0, 100.0))), 1)
+
+    def edge(self, source, _):
+        """A slot's distance is the width or eight widths, or the next f64 to it."""
+        f0, f1, f2 = (carton.number_of(source.choice(self.frequencies)) for _ in range(3))
+        distance = abs(source.choice(((f0 - f1) - f2, (f0 + f1) - f2, (f0 - f1) + f2)))
+        return min(max(bits(distance / source.choice((1.0, 8.0))) + source.choice((-1, 0, 1)), 1), INFINITE - 1)
+
+    def free(self, source, _):
+        return source.randrange(1, INFINITE)
+
+    def damage(self, source):
+        """One or two numbers that the door refuses."""
+        for _ in range(source.choice((1, 1, 2))):
+            what = source.choice(("triplet", "bands", "frequencies", "width"))
+            if what == "width":
+                self.width = source.choice((0, 2**63, bits(-1.0), 2**63 + 1, INFINITE, INFINITE + 2**63, NAN, NAN + 1))
+            elif what == "frequencies":
+                self.frequencies[source.randrange(len(self.frequencies))] = source.choice((INFINITE, INFINITE + 2**63, NAN))
+            else:
+                table, most = (self.triplet, self.grid) if what == "triplet" else (self.bands, 3 * self.atoms)
+                table[source.randrange(len(table))] = source.choice((-1, most, 2**62))
+
+    def text(self):
+        """The description."""
+        return (f"P: {self.atoms}\nF: {len(self.bands)}\nG: {self.grid}\ntriplet: {' '.join(map(str, self.triplet))}\nbands: {' '.join(map(str, self.bands))}\n"
+                f"frequencies: {' '.join(f'0x{word:016x}' for word in self.frequencies)}\nshape: {self.shape}\nwidth: 0x{self.width:016x}\n" + AROUND)
+
+
+def answer_of(door, handed):
+    """The number that the door answers, and flag, first and second weight of each slot; any NaN as the one that carton.py writes."""
+    numbers, slots = len(handed.frequencies), len(handed.bands) * (3 * handed.atoms)**2
+    frequencies = (ctypes.c_double * numbers).from_buffer_copy(struct.pack(f"={numbers}Q", *handed.frequencies))
+    bands = (ctypes.c_int64 * len(handed.bands))(*handed.bands)
+    first, second, flags = (ctypes.c_double * slots)(*[7.0] * slots), (ctypes.c_double * slots)(*[7.0] * slots), (ctypes.c_uint8 * slots)(*[7] * slots)
+    size = ctypes.c_size_t
+    number = door(size(handed.atoms), size(len(bands)), size(handed.grid), ctypes.c_uint8(NUMBERS[handed.shape]), ctypes.c_double(carton.number_of(handed.width)),
+                  (ctypes.c_int64 * 3)(*handed.triplet), bands, size(len(bands)), frequencies, size(numbers),
+                  first, size(slots), second, size(slots), flags, size(slots))
+    return number, list(zip(flags, map(carton.word_of, first), map(carton.word_of, second)))
+
+
+@unittest.skipUnless(os.environ.get("WIRAMBOLO_SO"), "WIRAMBOLO_SO names no shared object of the doors")
+class Door(Described):
+    def setUp(self):
+        super().setUp()
+        self.door = getattr(ctypes.CDLL(os.path.abspath(os.environ["WIRAMBOLO_SO"])), DOOR)
+        self.door.restype = ctypes.c_uint8
+
+    def assert_alike(self, handed):
+        """The description's tables are those that the door writes, or it is turned away with the door's number, which is given back."""
+        number, slots = answer_of(self.door, handed)
+        path = self.described(handed.text())
+        if number == 0:
+            self.assertEqual(slots_of(carton.read_description(path)), slots, handed.text())
+        else:
+            with self.assertRaises(carton.DescriptionError) as caught:
+                carton.read_description(path)
+            self.assertEqual(re.findall("refuses it with ([0-9]+)", str(caught.exception)), [str(number)], handed.text())
+        return number, slots
+
+    def test_random(self):
+        """2,500 descriptions, with all that can come out among them."""
+        source, seen = random.Random(2026), collections.Counter()
+        for _ in range(2500):
+            handed = Set(source)
+            number, slots = self.assert_alike(handed)
+            seen[number] += 1
+            if number == 0:
+                seen[handed.shape, handed.atoms] += 1
+                seen.update(name for name, at, word in (("flagged", 0, 1), ("infinite", 1, INFINITE), ("NaN", 2, NAN), ("zero", 2, 0)) for slot in slots if slot[at] == word)
+        for name in (3, 4, 13):
+            self.assertGreater(seen[name], 20, seen)
+        for name in [(shape, atoms) for shape in NUMBERS for atoms in (1, 2)] + ["flagged", "infinite", "NaN", "zero"]:
+            self.assertGreater(seen[name], 200, seen)
 
 
 # ---- where a carton is written to
@@ -685,12 +1112,13 @@ class Time(Described):
         return min(times)
 
     def test_linear(self):
-        """Eight times as much takes some eight times as long, not 64: many lines, one long line, single entries, and repeats."""
+        """Eight times as much takes some eight times as long, not 64: many lines, one long line, single entries, repeats, and weights from a shape."""
         texts = {
             "lines": lambda n: "vectors:\n" + "    0.5 0 0\n" * n,
             "one line": lambda n: "vectors: " + "0.5 0 0  " * n + "\n",
             "entries": lambda n: f"V: {n}\nvectors: all 0 0 0\n" + "".join(f"    {i} = 1 2 3\n" for i in range(n)),
             "repeats": lambda n: f"vectors: {30 * n}*0\n",
+            "shape": lambda n: f"bands: {n // 16}*0\nshape: gaussian\nwidth: 1\n",
         }
         for name, text in texts.items():
             with self.subTest(name):
@@ -707,6 +1135,13 @@ class Page(unittest.TestCase):
         for name in carton.NAMES:
             if name != "from":
                 self.assertIn(f"`{name}`", named)
+
+    def test_shape(self):
+        """The page shows the example of weights from a shape and its print."""
+        page = (HERE.parent / "README.md").read_text()
+        lines = [line for line in (EXAMPLES / "shape.txt").read_text().splitlines() if not line.startswith("#")]
+        for text in ("\n".join(lines), SHAPE_PRINT.rstrip()):
+            self.assertIn("\n\n    " + text.replace("\n", "\n    ") + "\n\n", page)
 
 
 # ---- the prints of the key cases
@@ -744,13 +1179,37 @@ def print_of(first, held, flagged):
     return text + "".join(f"total {b} {bits(total):016x}\n" for b, total in enumerate(totals))
 
 
+# of shape.txt: 12 times the f64 nearest 1/√(2π), from 16 · 0.25 · 3, in the one slot with a strength
+SHAPE_PRINT = """\
+bands 3
+slot 0 1 0 0000000000000000
+slot 0 0 1 0000000000000000
+slot 1 0 0 0000000000000000
+slot 1 2 1 0000000000000000
+slot 1 1 2 0000000000000000
+slot 2 1 1 3fd0000000000000
+total 0 0000000000000000
+total 1 0000000000000000
+total 2 40132633e6df28bd
+"""
+
+
 @unittest.skipUnless(os.environ.get("KEY"), "KEY names no program")
-class Prints(unittest.TestCase):
+class Prints(Described):
+    def print_by_key(self, path):
+        return subprocess.run([os.environ["KEY"]], input=carton_of(path), capture_output=True).stdout.decode()
+
     def test_key_cases(self):
         for name, expected in PRINTS.items():
             with self.subTest(name):
-                told = subprocess.run([os.environ["KEY"]], input=carton_of(EXAMPLES / f"{name}.txt"), capture_output=True)
-                self.assertEqual(told.stdout.decode(), f"refused {expected}\n" if isinstance(expected, int) else print_of(*expected))
+                self.assertEqual(self.print_by_key(EXAMPLES / f"{name}.txt"), f"refused {expected}\n" if isinstance(expected, int) else print_of(*expected))
+
+    def test_shape(self):
+        self.assertEqual(self.print_by_key(EXAMPLES / "shape.txt"), SHAPE_PRINT)
+
+    def test_infinite_weights(self):
+        """As the note on them says."""
+        self.assertEqual(self.print_by_key(self.changed("shape: box\nwidth: 5e-324\n")), "refused 4\n")
 
 
 if __name__ == "__main__":
