@@ -64,6 +64,12 @@ class Described(unittest.TestCase):
         """Cell U with these statements."""
         return self.described("from: u.txt\n" + text)
 
+    def assert_error(self, path, expected):
+        """No carton can be made of the description, with this in the message."""
+        with self.assertRaises(carton.DescriptionError) as caught:
+            carton.read_description(path)
+        self.assertIn(expected, str(caught.exception))
+
     def assert_told(self, told, status, expected):
         """The command ended so, with this in its messages and no trace of Python."""
         message = told.stderr if isinstance(told.stderr, str) else told.stderr.decode()
@@ -337,11 +343,6 @@ ERRORS = [
 
 
 class Errors(Described):
-    def assert_error(self, path, expected):
-        with self.assertRaises(carton.DescriptionError) as caught:
-            carton.read_description(path)
-        self.assertIn(expected, str(caught.exception))
-
     def test_changes(self):
         for text, expected in ERRORS:
             with self.subTest(text):
@@ -736,17 +737,14 @@ class Shapes(Described):
         """A table of these above a shape is turned away, whether it gives all or single entries."""
         (self.folder / "base.txt").write_text("from: u.txt\nshape: box\nwidth: 0.5\n")
         for text in ("slot flags: all 0\n", "first weights:\n    0 1 2 = 1\n", "second weights: all 0\nwidth: 1\n"):
-            with self.subTest(text), self.assertRaises(carton.DescriptionError) as caught:
-                carton.read_description(self.described("from: base.txt\n" + text))
-            self.assertIn(f"own.txt:2: {text.partition(':')[0]}: given beside the shape at {self.folder}/base.txt:2", str(caught.exception))
+            with self.subTest(text):
+                self.assert_error(self.described("from: base.txt\n" + text), f"own.txt:2: {text.partition(':')[0]}: given beside the shape at {self.folder}/base.txt:2")
 
     def test_tables_between(self):
         """So too where the width alone is given above them."""
         (self.folder / "base.txt").write_text("from: u.txt\nshape: box\nwidth: 0.5\n")
         (self.folder / "flagged.txt").write_text("from: base.txt\nslot flags: all 1\n")
-        with self.assertRaises(carton.DescriptionError) as caught:
-            carton.read_description(self.described("from: flagged.txt\nwidth: 1\n"))
-        self.assertIn("flagged.txt:2: slot flags: given beside the shape", str(caught.exception))
+        self.assert_error(self.described("from: flagged.txt\nwidth: 1\n"), "flagged.txt:2: slot flags: given beside the shape")
 
 
 # ---- weights from a shape, as the door works them
@@ -799,11 +797,11 @@ class Set:
 
     @staticmethod
     def small(source):
-        return source.choice((-1.0, 1.0)) * 2.0 ** -source.randint(500, 1074) * source.randint(0, 7)
+        return source.choice((-1.0, 1.0)) * 2.0 ** -source.choice((1074, source.randint(500, 1074))) * source.randint(0, 7)
 
     @staticmethod
     def large(source):
-        return source.choice((-1.0, 1.0)) * 2.0 ** source.randint(480, 1023) * source.uniform(1.0, 1.99)
+        return source.choice((-1.0, 1.0)) * 2.0 ** source.choice((1023, source.randint(480, 1023))) * source.uniform(1.0, 1.99)
 
     @staticmethod
     def any(source):
@@ -869,7 +867,7 @@ class Door(Described):
         else:
             with self.assertRaises(carton.DescriptionError) as caught:
                 carton.read_description(path)
-            self.assertEqual(re.findall("refuses it with ([0-9]+)", str(caught.exception)), [str(number)], handed.text())
+            self.assertEqual(re.findall(carton.REFUSED + " ([0-9]+)", str(caught.exception)), [str(number)], handed.text())
         return number, slots
 
     def test_random(self):
