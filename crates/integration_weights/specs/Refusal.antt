@@ -27,7 +27,7 @@ weightLengths n first second flags = eqb first n ∷ eqb second n ∷ eqb flags 
 unfoldable pub bandsOk : Measures → List ℤ → Bool
 bandsOk m bands = allWithin (pos 0) (pos (bandsOf m - 1)) bands
 
--- 13: a width not above zero
+-- 13, width: not above zero
 unfoldable pub widthOk : Float → Bool
 widthOk w = lt f0 w
 
