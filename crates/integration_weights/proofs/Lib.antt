@@ -4,3 +4,4 @@ pub mod SlotLaws
 pub mod CheckLaws
 pub mod Nonnegative
 pub mod AcceptedWeights
+pub mod ClosedCases
