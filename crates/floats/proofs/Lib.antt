@@ -9,5 +9,6 @@ pub mod Quotients
 pub mod Numbers
 pub mod Doubled
 pub mod Least
+pub mod Sums
 pub mod Integers
 pub mod WholeLaws

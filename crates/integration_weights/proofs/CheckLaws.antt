@@ -31,7 +31,7 @@ use Rattle.integration_weights.specs.Shapes.{widthOf}
 use Rattle.integration_weights.specs.Sets.{WeightsSet, bandsIn, slotsIn, legFrequency, slotOf}
 use Rattle.integration_weights.specs.Refusal.{bandLengths, weightLengths, bandsOk, widthOk, bandTests, weightsRefusal}
 use Rattle.integration_weights.specs.Doors.{WeightsOutcome, weightsLeaves, weightsOutcome}
-use Rattle.integration_weights.specs.Rows.{SameLength, slotIn}
+use Rattle.integration_weights.specs.Rows.{SameLength, slotIn, Good, Finite}
 use Rattle.integration_weights.proofs.SlotLaws.{All}
 
 pub record AcceptedWeights (s : WeightsSet) : Type 0 where
@@ -164,6 +164,12 @@ module _ (s : WeightsSet) (e : weightsRefusal s ≡ 0) where
 
   leg-at : (l n : ℕ) → n < bandsIn s → at (legOf s l) n ≡ legFrequency s l n
   leg-at l n h = part-at (s .frequencies) (index (int (s .triplet) l) * bandsIn s) (bandsIn s) n nan h
+
+  pub real : (l : ℕ) {leg : List Float} → leg ≡ legOf s l → length leg ≡ bandsIn s → Finite leg
+  real l p n k h = let i : k < bandsIn s = omega arith in rw p (ap finite (leg-at l k i) ∙ leg-finite l k i)
+
+  pub good-shape : Good (s .shape)
+  good-shape = record { width = facts .width; above = facts .above }
 
   slot-same : {l0 l1 l2 : List Float} → l0 ≡ legOf s 0 → l1 ≡ legOf s 1 → l2 ≡ legOf s 2 → length l1 ≡ bandsIn s → length l2 ≡ bandsIn s
       → (n : ℕ) → n < slotsIn s → slotIn (s .shape) (s .bands) l0 l1 l2 n ≡ slotOf s n

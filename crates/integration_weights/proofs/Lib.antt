@@ -3,5 +3,6 @@ pub mod ShapeLaws
 pub mod SlotLaws
 pub mod CheckLaws
 pub mod Nonnegative
+pub mod ValueLaws
 pub mod AcceptedWeights
 pub mod ClosedCases

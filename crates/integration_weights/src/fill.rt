@@ -7,21 +7,25 @@ use crate::shapes::shape_two;
 use funcs::Two;
 use planes::index_at;
 ghost use mathlib.Core.Path.{_≡_};
+ghost use mathlib.Core.Bool.{true};
 ghost use Prim.Native.Nat.{ℕ, _+_, _*_, _<_, _≤_};
 ghost use lib.ListN.{length, set};
 ghost use Rattle.phonon.specs.Number.{_⊖_, index, int, table};
+ghost use Rattle.phonon.specs.Tests.{finite};
 ghost use Rattle.integration_weights.specs.declared.Shape.the-variants.{Gaussian};
 ghost use Rattle.integration_weights.specs.Weights.{flagOf};
-ghost use Rattle.integration_weights.specs.Rows.{SameLength, rowSlot, blockSlot, slotIn};
+ghost use Rattle.integration_weights.specs.Rows.{SameLength, rowSlot, blockSlot, slotIn, Good, Finite, Value};
 
-// Of the shape's three values.
+// Of the shape's three values: since none is negative, their sum is zero exactly if all are. One comparison takes much less time
+// than three.
 fn flag_of(a: f64, b: f64, c: f64) -> u8
+    requires { ⌜ Value a × Value b × Value c ⌝ }
     ensures { λ r. ⌜ r ≡ flagOf a b c ⌝ }
 {
-    if (a == 0.0) & (b == 0.0) & (c == 0.0) {
-        return 1;
+    if 0.0 < a + b + c {
+        return 0;
     }
-    0
+    1
 }
 
 // Both weights and the flag of slot k, from the shape's three values there.
@@ -34,7 +38,7 @@ fn put_one(
     second: &mut [f64],
     flags: &mut [u8],
 )
-    requires { ⌜ (k < length (now first)) × (k < length (now second)) × (k < length (now flags)) ⌝ }
+    requires { ⌜ (k < length (now first)) × (k < length (now second)) × (k < length (now flags)) × Value a × Value b × Value c ⌝ }
     ensures { λ _. ⌜ (now (first .exit) ≡ set (now (first .entry)) k a)
         × (now (second .exit) ≡ set (now (second .entry)) k (b ⊖ c))
         × (now (flags .exit) ≡ set (now (flags .entry)) k (flagOf a b c)) ⌝ }
@@ -54,7 +58,15 @@ fn put_two(
     second: &mut [f64],
     flags: &mut [u8],
 )
-    requires { ⌜ (k + 1 < length (now first)) × (k + 1 < length (now second)) × (k + 1 < length (now flags)) ⌝ }
+    requires { ⌜ (k + 1 < length (now first))
+        × (k + 1 < length (now second))
+        × (k + 1 < length (now flags))
+        × Value (a .one)
+        × Value (b .one)
+        × Value (c .one)
+        × Value (a .two)
+        × Value (b .two)
+        × Value (c .two) ⌝ }
     ensures { λ _. ⌜ (now (first .exit) ≡ set (set (now (first .entry)) k (a .one)) (k + 1) (a .two))
         × (now (second .exit) ≡ set (set (now (second .entry)) k (b .one ⊖ c .one)) (k + 1) (b .two ⊖ c .two))
         × (now (flags .exit) ≡ set (set (now (flags .entry)) k (flagOf (a .one) (b .one) (c .one))) (k + 1) (flagOf (a .two) (b .two) (c .two))) ⌝ }
@@ -77,7 +89,11 @@ fn shape_row(
     second: &mut [f64],
     flags: &mut [u8],
 )
-    requires { ⌜ SameLength (length (now leg)) (length (now first)) (length (now second)) (length (now flags)) ⌝ }
+    requires { ⌜ SameLength (length (now leg)) (length (now first)) (length (now second)) (length (now flags))
+        × Good s
+        × (finite x ≡ true)
+        × (finite y ≡ true)
+        × Finite (now leg) ⌝ }
     ensures { λ _. ⌜ (now (first .exit) ≡ table (length (now (leg .entry))) (λ k. rowSlot s x y (now (leg .entry)) k .first))
         × (now (second .exit) ≡ table (length (now (leg .entry))) (λ k. rowSlot s x y (now (leg .entry)) k .second))
         × (now (flags .exit) ≡ table (length (now (leg .entry))) (λ k. rowSlot s x y (now (leg .entry)) k .flag)) ⌝ }
@@ -113,7 +129,11 @@ fn gaussian_row(
     second: &mut [f64],
     flags: &mut [u8],
 )
-    requires { ⌜ SameLength (length (now leg)) (length (now first)) (length (now second)) (length (now flags)) ⌝ }
+    requires { ⌜ SameLength (length (now leg)) (length (now first)) (length (now second)) (length (now flags))
+        × Good (Gaussian w)
+        × (finite x ≡ true)
+        × (finite y ≡ true)
+        × Finite (now leg) ⌝ }
     ensures { λ _. ⌜ (now (first .exit) ≡ table (length (now (leg .entry))) (λ k. rowSlot (Gaussian w) x y (now (leg .entry)) k .first))
         × (now (second .exit) ≡ table (length (now (leg .entry))) (λ k. rowSlot (Gaussian w) x y (now (leg .entry)) k .second))
         × (now (flags .exit) ≡ table (length (now (leg .entry))) (λ k. rowSlot (Gaussian w) x y (now (leg .entry)) k .flag)) ⌝ }
@@ -148,7 +168,11 @@ fn fill_row(
     second: &mut [f64],
     flags: &mut [u8],
 )
-    requires { ⌜ SameLength (length (now leg)) (length (now first)) (length (now second)) (length (now flags)) ⌝ }
+    requires { ⌜ SameLength (length (now leg)) (length (now first)) (length (now second)) (length (now flags))
+        × Good s
+        × (finite x ≡ true)
+        × (finite y ≡ true)
+        × Finite (now leg) ⌝ }
     ensures { λ _. ⌜ (now (first .exit) ≡ table (length (now (leg .entry))) (λ k. rowSlot s x y (now (leg .entry)) k .first))
         × (now (second .exit) ≡ table (length (now (leg .entry))) (λ k. rowSlot s x y (now (leg .entry)) k .second))
         × (now (flags .exit) ≡ table (length (now (leg .entry))) (λ k. rowSlot s x y (now (leg .entry)) k .flag)) ⌝ }
@@ -169,7 +193,11 @@ fn fill_block(
     second: &mut [f64],
     flags: &mut [u8],
 )
-    requires { ⌜ SameLength (length (now leg1) * length (now leg2)) (length (now first)) (length (now second)) (length (now flags)) ⌝ }
+    requires { ⌜ SameLength (length (now leg1) * length (now leg2)) (length (now first)) (length (now second)) (length (now flags))
+        × Good s
+        × (finite x ≡ true)
+        × Finite (now leg1)
+        × Finite (now leg2) ⌝ }
     ensures { λ _. ⌜
         (now (first .exit) ≡ table (length (now (leg1 .entry)) * length (now (leg2 .entry))) (λ q. blockSlot s x (now (leg1 .entry)) (now (leg2 .entry)) q .first))
         × (now (second .exit) ≡ table (length (now (leg1 .entry)) * length (now (leg2 .entry))) (λ q. blockSlot s x (now (leg1 .entry)) (now (leg2 .entry)) q .second))
@@ -205,7 +233,11 @@ pub fn fill_weights(
     requires { ⌜ (length (now leg1) ≤ 3000)
         × (length (now leg2) ≤ 3000)
         × ((b : ℕ) → b < length (now bands) → index (int (now bands) b) < length (now leg0))
-        × SameLength (length (now bands) * (length (now leg1) * length (now leg2))) (length (now first)) (length (now second)) (length (now flags)) ⌝ }
+        × SameLength (length (now bands) * (length (now leg1) * length (now leg2))) (length (now first)) (length (now second)) (length (now flags))
+        × Good s
+        × Finite (now leg0)
+        × Finite (now leg1)
+        × Finite (now leg2) ⌝ }
     ensures { λ _. ⌜ (now (first .exit) ≡ table (length (now (bands .entry)) * (length (now (leg1 .entry)) * length (now (leg2 .entry))))
         (λ p. slotIn s (now (bands .entry)) (now (leg0 .entry)) (now (leg1 .entry)) (now (leg2 .entry)) p .first))
         × (now (second .exit) ≡ table (length (now (bands .entry)) * (length (now (leg1 .entry)) * length (now (leg2 .entry))))

@@ -40,7 +40,7 @@ module _ (c : tie.In-loop Inv-loop μ-loop) where
 loop-holds : tie.Need-loop-holds Inv-loop μ-loop
 loop-holds c =
     let s = c .before .before .before .before .before in
-    (omega arith, slots-at _ _ (slots-none _ _ (s .pre)) (sym (zero-mul (length (s .args .leg2 .now)))))
+    (omega arith, slots-at _ _ (slots-none _ _ (s .pre .0)) (sym (zero-mul (length (s .args .leg2 .now)))))
 
 mul-from : tie.Need-mul-from Inv-loop μ-loop
 mul-from c = omega (arith, room c)
@@ -91,12 +91,13 @@ fill-row-requires : tie.Need-fill-row-requires Inv-loop μ-loop
 fill-row-requires c κs =
     let l = c .before .before .before .before in
     let d = l .before .loop .inv .1 in
+    let p = start (l .before) .pre in
     let e : j l * n l + n l - j l * n l ≡ n l = omega arith in
-    record {
+    (record {
       first = mid-len (j l * n l) (j l * n l + n l) _ (omega (arith, fits l, d .first .long)) ∙ e;
       second = mid-len (j l * n l) (j l * n l + n l) _ (omega (arith, fits l, d .second .long)) ∙ e;
       flags = mid-len (j l * n l) (j l * n l + n l) _ (omega (arith, fits l, d .flags .long)) ∙ e;
-    }
+    }, p .1, p .2, p .3 (j l) (l .loop-test .taken), p .4)
 
 add-j : tie.Need-add-j Inv-loop μ-loop
 add-j c = search needs
@@ -114,13 +115,13 @@ loop-again c =
     )
 
 same-length : tie.Need-same-length Inv-loop μ-loop
-same-length c = c .before .loop .inv .1 .first .long ∙ sym (start (c .before) .pre .first)
+same-length c = c .before .loop .inv .1 .first .long ∙ sym (start (c .before) .pre .0 .first)
 
 same-length-2 : tie.Need-same-length-2 Inv-loop μ-loop
-same-length-2 c = c .before .loop .inv .1 .second .long ∙ sym (start (c .before) .pre .second)
+same-length-2 c = c .before .loop .inv .1 .second .long ∙ sym (start (c .before) .pre .0 .second)
 
 same-length-3 : tie.Need-same-length-3 Inv-loop μ-loop
-same-length-3 c = c .before .loop .inv .1 .flags .long ∙ sym (start (c .before) .pre .flags)
+same-length-3 c = c .before .loop .inv .1 .flags .long ∙ sym (start (c .before) .pre .0 .flags)
 
 returns : tie.Need-returns Inv-loop μ-loop
 returns c = slots-all _ _ (c .before .loop .inv .1) (mul-le-mul-right _ (omega (arith, c .loop-test .left)))

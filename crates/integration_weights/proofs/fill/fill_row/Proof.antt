@@ -1,6 +1,7 @@
 -- By the shape.
 use borrow.Author.Needs.{needs}
 use Rattle.integration_weights.proofs.SlotLaws.{all-of}
+use Rattle.integration_weights.proofs.ValueLaws.{good-of}
 use Rattle.integration_weights.proofs.fill.fill_row.Statement.{statement}
 use Rattle.integration_weights.proofs.fill.fill_row.Tie as tie
 
@@ -8,7 +9,10 @@ enum-known-s : tie.Need-enum-known-s
 enum-known-s c = search needs
 
 gaussian-row-requires : tie.Need-gaussian-row-requires
-gaussian-row-requires c κs = search needs
+gaussian-row-requires c κs =
+    let k = c .before .before .before .before in
+    let p = k .before .before .before .before .before .before .pre in
+    (p .0, good-of (k .s .given .1) (p .1), p .2, p .3, p .4)
 
 shape-row-requires : tie.Need-shape-row-requires
 shape-row-requires c κs = search needs

@@ -1,8 +1,9 @@
 -- After k slots each of the three slices holds the first k of its table: two slots more in a turn, and a last one where the row is odd.
-use Prim.Native.Nat.{_-_}
+use Prim.Native.Nat.{_+_, _-_}
 use native.Mathlib.Omega.{arith}
 use borrow.Author.Needs.{needs}
 use lib.ListN.{length}
+use Rattle.integration_weights.proofs.ValueLaws.{values-good}
 use Rattle.integration_weights.proofs.SlotLaws.{Row, slots-none, slots-all, row-one, row-two}
 use Rattle.integration_weights.proofs.fill.shape_row.Statement.{statement}
 use Rattle.integration_weights.proofs.fill.shape_row.Tie as tie
@@ -14,7 +15,7 @@ abbrev μ-loop : tie.MeasureT-loop
 μ-loop s x y leg first₀ second₀ flags₀ n u v k₀ first second flags k = length leg - k
 
 loop-holds : tie.Need-loop-holds Inv-loop μ-loop
-loop-holds c = slots-none _ _ (c .before .before .before .before .pre)
+loop-holds c = slots-none _ _ (c .before .before .before .before .pre .0)
 
 add-loop : tie.Need-add-loop Inv-loop μ-loop
 add-loop c = search needs
@@ -45,9 +46,17 @@ shape-two-requires-3 c κs = search needs
 
 put-two-requires : tie.Need-put-two-requires Inv-loop μ-loop
 put-two-requires c κs =
-    let l = c .before .before .before .before .before .before .before .before in
+    let v = c .before .before .before in
+    let l = v .before .before .before .before .before in
     let d = l .before .loop .inv in
-    (omega (arith, l .loop-test .taken, d .first .long), omega (arith, l .loop-test .taken, d .second .long), omega (arith, l .loop-test .taken, d .flags .long))
+    let s = l .before .before .before .before .before .before in
+    let a = s .args in
+    let k = l .before .loop .k in
+    let one = values-good (a .s) (a .x) (a .y) (a .leg .now) k (s .pre .1) (s .pre .2) (s .pre .3) (s .pre .4 k (omega (arith, l .loop-test .taken)))
+    (record { one = v .before .before .shape-two .ensures .0; two = v .before .shape-two2 .ensures .0; three = v .shape-two3 .ensures .0 }) in
+    let two = values-good (a .s) (a .x) (a .y) (a .leg .now) (k + 1) (s .pre .1) (s .pre .2) (s .pre .3) (s .pre .4 (k + 1) (l .loop-test .taken))
+    (record { one = v .before .before .shape-two .ensures .1; two = v .before .shape-two2 .ensures .1; three = v .shape-two3 .ensures .1 }) in
+    (omega (arith, l .loop-test .taken, d .first .long), omega (arith, l .loop-test .taken, d .second .long), omega (arith, l .loop-test .taken, d .flags .long), one .0, one .1, one .2, two .0, two .1, two .2)
 
 add-k : tie.Need-add-k Inv-loop μ-loop
 add-k c =
@@ -84,9 +93,16 @@ shape-two-requires-4 c κs = search needs
 
 put-one-requires : tie.Need-put-one-requires Inv-loop μ-loop
 put-one-requires c κs =
-    let i = c .before .before .before .before .before .before in
-    let d = i .before .before .loop .inv in
-    (omega (arith, i .if1 .taken, d .first .long), omega (arith, i .if1 .taken, d .second .long), omega (arith, i .if1 .taken, d .flags .long))
+    let v = c .before .before .before in
+    let i = v .before .before .before in
+    let l = i .before .before in
+    let d = l .loop .inv in
+    let s = l .before .before .before .before .before in
+    let a = s .args in
+    let k = l .loop .k in
+    let one = values-good (a .s) (a .x) (a .y) (a .leg .now) k (s .pre .1) (s .pre .2) (s .pre .3) (s .pre .4 k (i .if1 .taken))
+    (record { one = v .before .shape-at .ensures; two = v .shape-two4 .ensures .0; three = v .shape-two4 .ensures .1 }) in
+    (omega (arith, i .if1 .taken, d .first .long), omega (arith, i .if1 .taken, d .second .long), omega (arith, i .if1 .taken, d .flags .long), one .0, one .1, one .2)
 
 same-length : tie.Need-same-length Inv-loop μ-loop
 same-length c = search needs

@@ -422,6 +422,9 @@ fn slots() {
         (Box(LEAST), [0.0, 0.0, 0.0]),
         (Lorentzian(1e-200), [1.0, 2.0, 4.0]),
         (Lorentzian(1e-300), [3.0, 2.0, 4.0]),
+        (Lorentzian(1e-300), [1e20, 1.0, 1.0]),
+        (Lorentzian(1e160), [4.0, 1.0, 2.0]),
+        (Box(f64::MAX), [4.0, 1.0, 2.0]),
     ];
     for (shape, [f0, f1, f2]) in cases {
         let (first, second, flag) = weights::slot(shape, f0, f1, f2);
