@@ -7,6 +7,7 @@ pub mod Reducible
 pub mod Floor
 pub mod Shift
 pub mod Quarters
+pub mod CountLaws
 pub mod SeriesBounds
 pub mod Remainder
 pub mod ExpLeast

@@ -1,11 +1,11 @@
 -- The whole part of x * log2 e, for x from 0 to 709, is at most 1022. Assumes nothing.
 use mathlib.Core.Path.{_≡_, sym, subst}
 use mathlib.Core.Bool.{Bool, true, false, true≢false}
-use Prim.Native.Nat.{ℕ, zero, suc, _+_, _*_, _^_, _≤_, _<_}
-use native.Mathlib.Nat.{le-of-eq, lt-of-lt-of-le, lt-of-le-of-lt, lt-irrefl, mul-pos, mul-right-comm, mul-lt-mul-of-pos-right, lt-of-mul-lt-mul-right, mul-le-mul-right, div-lt-iff-lt-mul, zero-lt-suc, min-le-left}
+use Prim.Native.Nat.{ℕ, zero, suc, _*_, _≤_, _<_}
+use native.Mathlib.Nat.{le-of-eq, lt-of-lt-of-le, lt-of-le-of-lt, lt-irrefl, mul-pos, mul-right-comm, mul-lt-mul-of-pos-right, lt-of-mul-lt-mul-right, div-lt-iff-lt-mul, zero-lt-suc, min-le-left}
 use native.Mathlib.Omega.{arith}
 use lib.IntN.{ℤ, pos, negsuc}
-use lib.Dec.{T, lt→ltb, lit<, lit≤}
+use lib.Dec.{T, lt→ltb, lit<}
 use borrow.Author.Tests.{ltb-false}
 use lib.Ieee.{Float, nan, inf, fin, binary64, up, down, lt, le, eq, round, mul, ofBits, toUnsigned}
 use lib.Ieee.Fits.{down-pos, up-pos}
@@ -22,29 +22,16 @@ below-bound m e n d B h l =
     lt-of-mul-lt-mul-right (down d)
     (lt-of-le-of-lt l (lt-of-lt-of-le (mul-lt-mul-of-pos-right h (down-pos e)) (le-of-eq (mul-right-comm B (down d) (down e)))))
 
--- what the truncating cast asks of y, and gives
-pub record Whole (y : Float) (B : ℕ) : Type 0 where
-  pub above : T (lt (fin true 1 (pos 0)) y)
-  pub under : T (lt y (fin false 1 (pos 64)))
-  pub small : toUnsigned 64 y < B
-
-pub whole-part : (y : Float) (n : ℕ) (d : ℤ) (B : ℕ) → n * up d < B * down d → 0 < B → B ≤ 2 ^ 64 → T (le (fin false 0 (pos 0)) y) → T (le y (fin false n d)) → Whole y B
+-- the whole part of a y from 0 to n * 2 ^ d
+whole-part : (y : Float) (n : ℕ) (d : ℤ) (B : ℕ) → n * up d < B * down d → 0 < B → T (le (fin false 0 (pos 0)) y) → T (le y (fin false n d)) → toUnsigned 64 y < B
 unfolding lt le eq toUnsigned
-whole-part nan n d B h b big lo hi = absurd lo
-whole-part (inf true) n d B h b big lo hi = absurd lo
-whole-part (inf false) n d B h b big lo hi = absurd hi
-whole-part (fin true m e) n d B h b big lo hi =
-    let z : m * up e ≡ 0 = negative-zero m e lo in
-    let p : 0 < down e = down-pos e in
-    record { above = lt→ltb (m * up e * 1) (1 * 1 * down e) (omega arith); under = lt→ltb 0 (m * up e * 1 + 1 * 2 ^ 64 * down e) (omega arith); small = b }
-whole-part (fin false m e) n d B h b big lo hi =
+whole-part nan n d B h b lo hi = absurd lo
+whole-part (inf true) n d B h b lo hi = absurd lo
+whole-part (inf false) n d B h b lo hi = absurd hi
+whole-part (fin true m e) n d B h b lo hi = b
+whole-part (fin false m e) n d B h b lo hi =
     let s : m * up e < B * down e = below-bound m e n d B h (at-most _ _ true hi) in
-    let p : 0 < down e = down-pos e in
-    record {
-      above = lt→ltb 0 (1 * 1 * down e + m * up e * 1) (omega arith);
-      under = lt→ltb (m * up e * 1) (1 * 2 ^ 64 * down e) (let t : B * down e ≤ 2 ^ 64 * down e = mul-le-mul-right (down e) big in omega arith);
-      small = lt-of-le-of-lt (min-le-left _ _) (div-lt-iff-lt-mul p .1 s);
-    }
+    lt-of-le-of-lt (min-le-left _ _) (div-lt-iff-lt-mul (down-pos e) .1 s)
 
 -- ---- x between 0 and 709, times log2 e
 abbrev pub limit : Float
@@ -75,9 +62,9 @@ scaled-range (fin false (suc m) e) h l =
     (round-mono binary64 0 1 _ _ (lit< tt) (mul-pos (down-pos e) (lit< tt)) (omega arith), mul-mono binary64 (fin false (suc m) e) limit log2e log2e px tt tt tt (cross→le (fin false (suc m) e) limit px tt (ltb-false _ _ h)) tt)
 
 -- the whole part is at most 1022
-pub exp-whole : (x : Float) → lt limit x ≡ false → le f0 x ≡ true → Whole (mul binary64 x log2e) 1023
+pub exp-whole : (x : Float) → lt limit x ≡ false → le f0 x ≡ true → toUnsigned 64 (mul binary64 x log2e) < 1023
 unfolding mul ofBits
-exp-whole x h l = let r = scaled-range x h l in whole-part (mul binary64 x log2e) 8997266565677285 (negsuc 42) 1023 (lit< tt) (lit< tt) (lit≤ tt) (r .0) (r .1)
+exp-whole x h l = let r = scaled-range x h l in whole-part (mul binary64 x log2e) 8997266565677285 (negsuc 42) 1023 (lit< tt) (lit< tt) (r .0) (r .1)
 
 -- a finite x from +0 to 709, as a fraction
 pub limited : (m : ℕ) (e : ℤ) → lt limit (fin false m e) ≡ false → m * up e ≤ 709 * down e

@@ -140,7 +140,7 @@ near-lower a c (suc j) p f s is =
 near : (m : ℕ) (e : ℤ) → lt limit (fin false m e) ≡ false → le f0 (fin false m e) ≡ true → Near (m * up e) (down e) (count (fin false m e))
 near m e h l =
     let k = count (fin false m e) in
-    let s = exp-whole (fin false m e) h l .small in
+    let s = exp-whole (fin false m e) h l in
     let is : k ≡ toUnsigned 64 (round binary64 false (m * up e * Ln) (down e * 2 ^ 51)) = ap (toUnsigned 64) (product-is m e) in
     record {
       upper = near-upper (m * up e) (down e) k s (under-next (m * up e) (down e) k (down-pos e) (limited m e h) s is);
@@ -225,7 +225,7 @@ pub remainder-bounds : (m : ℕ) (e : ℤ) → lt limit (fin false m e) ≡ fals
 unfolding ofBits
 remainder-bounds m e h l =
     let k = count (fin false m e) in
-    let s = exp-whole (fin false m e) h l .small in
+    let s = exp-whole (fin false m e) h l in
     let hi = mul binary64 (whole k) (fin false Hi (negsuc 31)) in
     let lo = mul binary64 (whole k) (fin false Lo (negsuc 83)) in
     let t = first-step m e k hi (times-high k s) (near m e h l) in

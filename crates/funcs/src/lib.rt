@@ -60,6 +60,9 @@ fn is_reducible(x: f64) -> bool
     if x > 709.0 { false } else { x >= 0.0 }
 }
 
+// 2 ^ 52: added to a smaller whole number, it leaves that number in the last 52 bits.
+const TWO_52: f64 = 4503599627370496.0;
+
 // What is left of x after k times ln 2, and 2 ^ k.
 struct Reduced {
     remainder: f64,
@@ -70,11 +73,10 @@ fn reduce(x: f64) -> Reduced
     requires { ⌜ reducible x ≡ true ⌝ }
     ensures { λ r. ⌜ (r .remainder ≡ Exp.remainder x (whole (Exp.count x))) × (r .power ≡ fin false 1 (pos (Exp.count x))) ⌝ }
 {
-    let k = std::num::truncating_f64_to_u64(x * LOG2_E);
-    let whole = std::num::nearest_u64_to_f64(k);
+    let whole = floor_parts(x * LOG2_E).whole;
     Reduced {
         remainder: (x - whole * LN_2_HIGH) - whole * LN_2_LOW,
-        power: power_of_two(k),
+        power: power_of_two(f64::to_bits(whole + TWO_52) % 0x10_0000_0000_0000),
     }
 }
 
