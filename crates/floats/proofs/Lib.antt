@@ -1,5 +1,6 @@
 -- The laws. Compare: what comparisons say of magnitudes. Unsigned, Signs, Numbers: no NaN and no sign; a NaN or no sign; no NaN. Bounds, SignedBounds,
--- Quotients, Doubled: the size of rounded results. Least: results not smaller than an operand. Integers, WholeLaws: whole numbers that are not rounded.
+-- Quotients, Doubled: the size of rounded results. Least, Sums: results not smaller than an operand, sums
+-- above zero. Integers, WholeLaws: whole numbers that are not rounded.
 pub mod Compare
 pub mod Unsigned
 pub mod Signs
