@@ -78,7 +78,7 @@ pub fn shape_at(s: Shape, d: f64) -> f64
 
 // ---- at two distances: of a Gaussian their exponentials side by side
 
-// The exponential's argument at t; 0.0, and no division's worth of time, where the distance is cut.
+// The exponential's argument at t. Where the distance is cut it is 0.0, in the domain of the exponentials that are worked side by side.
 fn argument(cut: bool, t: f64) -> f64
     ensures { λ r. ⌜ r ≡ cond cut f0 (t ⊗ t ⊘ f2) ⌝ }
 {
@@ -88,7 +88,7 @@ fn argument(cut: bool, t: f64) -> f64
     t * t / 2.0
 }
 
-// The value from its exponential e.
+// The value, from that exponential e.
 fn value(cut: bool, e: f64, scale: f64) -> f64
     ensures { λ r. ⌜ r ≡ cond cut f0 (f1 ⊘ e ⊗ scale) ⌝ }
 {
@@ -98,6 +98,7 @@ fn value(cut: bool, e: f64, scale: f64) -> f64
     1.0 / e * scale
 }
 
+// If both distances are cut, as most are of a narrow Gaussian, no exponential is worked.
 pub fn gaussian_two(w: f64, d: f64, e: f64) -> Two
     ensures { λ r. ⌜ (r .one ≡ Shapes.shapeAt (Gaussian w) d) × (r .two ≡ Shapes.shapeAt (Gaussian w) e) ⌝ }
 {
