@@ -92,12 +92,17 @@ fill-row-requires c κs =
     let l = c .before .before .before .before in
     let d = l .before .loop .inv .1 in
     let p = start (l .before) .pre in
-    let e : j l * n l + n l - j l * n l ≡ n l = omega arith in
-    (record {
-      first = mid-len (j l * n l) (j l * n l + n l) _ (omega (arith, fits l, d .first .long)) ∙ e;
-      second = mid-len (j l * n l) (j l * n l + n l) _ (omega (arith, fits l, d .second .long)) ∙ e;
-      flags = mid-len (j l * n l) (j l * n l + n l) _ (omega (arith, fits l, d .flags .long)) ∙ e;
-    }, p .1, p .2, p .3 (j l) (l .loop-test .taken), p .4)
+    let e : j l * n l + n l - j l * n l ≡ n l = omega arith in (
+      record {
+        first = mid-len (j l * n l) (j l * n l + n l) _ (omega (arith, fits l, d .first .long)) ∙ e;
+        second = mid-len (j l * n l) (j l * n l + n l) _ (omega (arith, fits l, d .second .long)) ∙ e;
+        flags = mid-len (j l * n l) (j l * n l + n l) _ (omega (arith, fits l, d .flags .long)) ∙ e;
+      },
+      p .1,
+      p .2,
+      p .3 (j l) (l .loop-test .taken),
+      p .4,
+    )
 
 add-j : tie.Need-add-j Inv-loop μ-loop
 add-j c = search needs

@@ -102,12 +102,17 @@ fill-block-requires c κs =
     let d = l .before .loop .inv .1 in
     let p = start (l .before) .pre in
     let e : b l * n l + n l - b l * n l ≡ n l = omega arith in
-    let i = c .before .before .before .before .index-at in
-    (record {
-      first = mid-len (b l * n l) (b l * n l + n l) _ (omega (arith, fits l, d .first .long)) ∙ e;
-      second = mid-len (b l * n l) (b l * n l + n l) _ (omega (arith, fits l, d .second .long)) ∙ e;
-      flags = mid-len (b l * n l) (b l * n l + n l) _ (omega (arith, fits l, d .flags .long)) ∙ e;
-    }, p .4, p .5 (i .result) (omega (arith, i .ensures, p .2 (b l) (l .loop-test .taken))), p .6, p .7)
+    let i = c .before .before .before .before .index-at in (
+      record {
+        first = mid-len (b l * n l) (b l * n l + n l) _ (omega (arith, fits l, d .first .long)) ∙ e;
+        second = mid-len (b l * n l) (b l * n l + n l) _ (omega (arith, fits l, d .second .long)) ∙ e;
+        flags = mid-len (b l * n l) (b l * n l + n l) _ (omega (arith, fits l, d .flags .long)) ∙ e;
+      },
+      p .4,
+      p .5 (i .result) (omega (arith, i .ensures, p .2 (b l) (l .loop-test .taken))),
+      p .6,
+      p .7,
+    )
 
 add-b : tie.Need-add-b Inv-loop μ-loop
 add-b c =
