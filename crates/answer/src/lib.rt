@@ -1,4 +1,6 @@
 // What `key` prints for any file: the carton is read, worked by the joined door, and put down as text.
+#![tactic(auto)]
+
 ghost use Rattle.std.specs.Prelude.{◌≡◌, true, ◌*◌, ◌/◌, ◌≤◌, length};
 ghost use Rattle.phonon.specs.Sets.{slots};
 ghost use Rattle.carton.specs.Blocks.{size_ok, blocks_ok};

@@ -1,4 +1,6 @@
 // The carton file: its blocks and their tests, the words that they hold, and its heading.
+#![tactic(auto)]
+
 mod blocks;
 mod heading;
 mod words;

@@ -1,4 +1,6 @@
 // The joined door on the set of a carton.
+#![tactic(auto)]
+
 ghost use Rattle.std.specs.Prelude.{◌≡◌, length};
 ghost use Rattle.phonon.specs.Doors.{JoinedOutcome, joined_outcome};
 ghost use Rattle.carton.specs.Fitted.{Fitted};

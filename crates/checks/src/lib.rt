@@ -1,5 +1,7 @@
 // Tests of single numbers and scans of tables, which the doors' refusals are made of; and groups of tests that several
 // doors share.
+#![tactic(auto)]
+
 pub mod groups;
 pub mod limits;
 pub mod measures;

@@ -1,4 +1,6 @@
 // common.rs: complex numbers. Beside them the root, which the language lacks, and whole numbers as f64.
+#![tactic(auto)]
+
 pub mod bits;
 
 ghost use Rattle.std.specs.Prelude.{◌≡◌, ◌*◌, ◌^◌, ◌<◌, ◌≤◌, false, pos};

@@ -1,4 +1,6 @@
 // funcs.rs: the occupation of a phonon. Beside it the exponential, the sine and the cosine, which the language lacks.
+#![tactic(auto)]
+
 ghost use Rattle.std.specs.Prelude.{◌≡◌, true, false, ◌<◌, ◌≤◌, pos, length};
 ghost use mathlib.Core.List.{[], ◌∷◌, foldl};
 ghost use Rattle.std.specs.Float.{fin};

@@ -1,4 +1,6 @@
 // imag_self_energy.rs: the band totals of one triplet, and the door totals alone, with flags in place of g_pos.
+#![tactic(auto)]
+
 mod check;
 mod listed;
 mod occupations;

@@ -1,4 +1,6 @@
 // Document 02, Ask 1: the integration weights of one triplet, from a broadening shape: both weights and the flag of every slot.
+#![tactic(auto)]
+
 mod check;
 mod fill;
 mod gaussians;

@@ -1,4 +1,6 @@
 // interaction.rs: the doors of the strengths.
+#![tactic(auto)]
+
 pub mod list;
 
 ghost use Rattle.std.specs.Prelude.{◌≡◌};

@@ -1,5 +1,7 @@
 // One triplet and its totals joined: the strengths of interaction.rs, and from them the totals of
 // imag_self_energy.rs, never at a frequency point.
+#![tactic(auto)]
+
 ghost use Rattle.std.specs.Prelude.{◌≡◌};
 ghost use Rattle.phonon.specs.Doors.{JoinedOutcome, joined_outcome};
 

@@ -1,4 +1,6 @@
 // Reads a carton file from standard input and prints its strengths and totals, or `refused` and a number.
+#![tactic(auto)]
+
 use libc::{STDERR_FILENO, STDIN_FILENO, STDOUT_FILENO};
 
 // A key that could not be written whole, as to a full disk, is told of on standard error: the language has no exit

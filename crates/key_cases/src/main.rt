@@ -3,6 +3,8 @@
 //
 // Each case goes through every door, which takes of it what it is handed: M10's multiplicity is nothing to totals alone, nor
 // M11's temperature to the doors of the strengths. A list has the triplet twice. Totals alone reads the case's strengths.
+#![tactic(auto)]
+
 ghost use Rattle.std.specs.Prelude.{◌≡◌, ◌+◌, ◌-◌, ◌≤◌, true, ◌∷◌, ◌++◌, length, replicate, slice_index_or};
 ghost use Rattle.std.proofs.Math.Seq.{paste};
 ghost use Rattle.phonon.specs.Number.{f0};

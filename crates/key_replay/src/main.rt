@@ -1,5 +1,7 @@
 // Answers each carton of a stream on standard input, as `key` answers a file. Of each carton stand its length, four bytes,
 // little-endian, and its bytes, of which only the first 49,153 matter and are sent.
+#![tactic(auto)]
+
 use libc::{STDIN_FILENO, STDOUT_FILENO};
 
 // Reads one carton and writes its answer; false at the end of the stream.

@@ -1,4 +1,6 @@
 // What stands where in a slice. Besides, what kernels and tests share: indices, parts, W and the orders of the legs.
+#![tactic(auto)]
+
 ghost use Rattle.std.specs.Prelude.{◌≡◌, [], ◌++◌, ◌+◌, ◌*◌, ◌<◌, ◌≤◌, length, get_or, take, drop, replicate};
 ghost use Rattle.phonon.specs.Number.{f0, index, int};
 ghost use Rattle.phonon.specs.Sets.{part};

@@ -1,4 +1,6 @@
 // real_to_reciprocal.rs: the force constants in reciprocal space.
+#![tactic(auto)]
+
 pub mod blocks;
 pub mod elements;
 pub mod phases;

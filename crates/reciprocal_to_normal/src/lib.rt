@@ -1,4 +1,6 @@
 // reciprocal_to_normal.rs: the strengths of a triplet's slots, from the force constants in reciprocal space.
+#![tactic(auto)]
+
 pub mod columns;
 pub mod contract;
 pub mod dot;

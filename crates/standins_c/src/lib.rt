@@ -1,4 +1,6 @@
 // The root, the exponential, the sine, the cosine and the occupation, for programs in C and Rust.
+#![tactic(auto)]
+
 ghost use Rattle.std.specs.Prelude.{◌≡◌};
 ghost use Rattle.phonon.specs.Root as Root;
 ghost use Rattle.phonon.specs.Exp as Exp;

@@ -3,6 +3,8 @@
 //
 // A line is a function's name, its argument's bits (bose_einstein has two arguments) and its answer's bits, each as 16
 // hexadecimal digits, with single spaces. A line that starts with # is a comment. Every NaN is 7ff8000000000000.
+#![tactic(auto)]
+
 ghost use Rattle.std.specs.Prelude.{◌≡◌, ◌+◌, ◌<◌, ◌≤◌, length};
 
 use common::bits::{bits_of, f64_of_bits};

@@ -1,4 +1,6 @@
 // The doors for programs in C and Rust: choices as numbers, arrays of fixed length by reference, one number as the answer.
+#![tactic(auto)]
+
 ghost use Rattle.std.specs.Prelude.{◌≡◌};
 ghost use Rattle.wirambolo_c.specs.Foreign as Foreign;
 ghost use Rattle.wirambolo_c.specs.Foreign.{Strengths, Totals, Joined, WeightsAnswer};
