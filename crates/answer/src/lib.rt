@@ -36,7 +36,7 @@ fn set_text(
         × (work.old ≡ zeros most_work)
         × (accepted_room ≤ length text.old) }
     ensures { Printed text.old 0
-        (set_text (start_of (record { floats = floats.entry.now; ints = ints.now; bytes = bytes.now }) h))
+        (set_text (start_of (record { floats = floats.now; ints = ints.now; bytes = bytes.now }) h))
         text.new result }
 {
     let answer = run_door(h, floats, ints, bytes, strengths, totals, work);

@@ -10,7 +10,7 @@ use phonon::{Anchoring, Form, Measures, Symmetry};
 use planes::work_length;
 
 // Where each table starts, the addresses at word 25, and where the last one ends.
-#[derive(Drop)]
+#[derive(Clone, Copy)]
 pub struct Places {
     pub vectors: usize,
     pub multiplicity: usize,
@@ -30,7 +30,7 @@ pub struct Places {
 }
 
 // What words 0 to 6 say, and the places that follow from it.
-#[derive(Drop)]
+#[derive(Clone, Copy)]
 pub struct Heading {
     pub measures: Measures,
     pub form: Form,
@@ -40,7 +40,7 @@ pub struct Heading {
 }
 
 // The heading of a file, or number 12.
-#[derive(Drop)]
+#[derive(Clone, Copy)]
 pub enum Read {
     Good(Heading),
     Wrong,

@@ -24,7 +24,7 @@ pub fn run_door(
     ensures { ◌≡◌ {A = JoinedOutcome}
         (record { answer = result; strengths = strengths.new; totals = totals.new; work = work.new })
         (joined_outcome
-        (set_in (record { floats = floats.entry.now; ints = ints.now; bytes = bytes.now }) h
+        (set_in (record { floats = floats.now; ints = ints.now; bytes = bytes.now }) h
         strengths.old totals.old work.old)) }
 {
     let m = h.measures;

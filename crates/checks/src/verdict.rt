@@ -6,7 +6,7 @@ ghost use Rattle.checks.specs.Answers.{checked_of, number_in, answer_of};
 use phonon::{Answer, Measures, Sizes};
 
 // What the measures are found to be: within their limits, with the sizes that they fix, or beyond them.
-#[derive(Drop)]
+#[derive(Clone, Copy)]
 pub enum Measured {
     Within(Sizes),
     Beyond,
@@ -14,7 +14,7 @@ pub enum Measured {
 
 // What a set is found to be: fit for work, with the measures that were checked, or refused with document 01's
 // number.
-#[derive(Drop)]
+#[derive(Clone, Copy)]
 pub enum Checked {
     Good(Measures),
     Bad(u8),

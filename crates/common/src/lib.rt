@@ -94,7 +94,7 @@ fn rounded_root(m: u64) -> u64
 }
 
 // The value digits * 2 ^ exponent * 2 ^ -2148, with all 53 digits.
-#[derive(Drop)]
+#[derive(Clone, Copy)]
 struct Scaled {
     digits: u64,
     exponent: u64,

@@ -47,7 +47,7 @@ fn is_reducible(x: f64) -> bool
 const TWO_52: f64 = 4503599627370496.0;
 
 // What is left of x after k times ln 2, and 2 ^ k.
-#[derive(Drop)]
+#[derive(Clone, Copy)]
 struct Reduced {
     remainder: f64,
     power: f64,
@@ -65,7 +65,7 @@ fn reduce(x: f64) -> Reduced
 }
 
 // Two numbers side by side.
-#[derive(Drop)]
+#[derive(Clone, Copy)]
 pub struct Two {
     pub one: f64,
     pub two: f64,
@@ -160,7 +160,7 @@ fn both_series(z: f64) -> [f64; 2]
 const SHIFT: f64 = 6755399441055744.0;
 
 // The greatest whole number not above y, as a float, and that number mod 4.
-#[derive(Drop)]
+#[derive(Clone, Copy)]
 struct Floored {
     whole: f64,
     quadrant: u64,
@@ -221,7 +221,7 @@ fn in_domain(x: f64) -> bool
 }
 
 // What is left of x after the nearest number of quarter turns, and that number mod 4.
-#[derive(Drop)]
+#[derive(Clone, Copy)]
 struct Nearest {
     rest: f64,
     quadrant: u64,
@@ -291,7 +291,7 @@ fn three_series(x: f64, y: f64, z: f64, sines: &[f64; 9], cosines: &[f64; 9]) ->
 }
 
 // The sines and the cosines of three numbers.
-#[derive(Drop)]
+#[derive(Clone, Copy)]
 pub struct ThreeSinCos {
     pub first: SinCos,
     pub second: SinCos,

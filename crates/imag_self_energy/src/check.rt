@@ -74,7 +74,7 @@ pub fn check(
           measures = m;
           weights = weights;
           triplet = triplet;
-          frequencies = frequencies.entry.now;
+          frequencies = frequencies.now;
           cutoff = cutoff;
           flags = flags.now;
           strengths = strengths.now;

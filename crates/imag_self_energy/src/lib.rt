@@ -40,7 +40,7 @@ const NO_BAND: Band = Band {
 };
 
 // What all slots of a triplet share: the weight as an f64.
-#[derive(Drop)]
+#[derive(Clone, Copy)]
 struct Shared {
     temperature: f64,
     cutoff: f64,
@@ -80,7 +80,7 @@ pub fn write_totals(
           weights = weights;
           bands = bands;
           points = triplet;
-          frequencies = frequencies.entry.now;
+          frequencies = frequencies.now;
           cutoff = cutoff;
           flags = flags.now;
           weight = weight;
@@ -127,7 +127,7 @@ pub fn imag_self_energy_at_triplet(
           measures = m;
           weights = weights;
           triplet = triplet;
-          frequencies = frequencies.entry.now;
+          frequencies = frequencies.now;
           cutoff = cutoff;
           flags = flags.now;
           strengths = strengths.now;

@@ -55,7 +55,7 @@ fn list_pairs(
 }
 
 // How many places two lists have.
-#[derive(Drop)]
+#[derive(Clone, Copy)]
 struct Counts {
     one: usize,
     two: usize,

@@ -71,7 +71,7 @@ pub fn check(
           measures = m;
           shape = shape;
           triplet = triplet;
-          bands = bands.entry.now;
+          bands = bands.now;
           frequencies = frequencies.now;
           first = first.now;
           second = second.now;

@@ -72,7 +72,7 @@ fn gaussian_all(w: f64, n: usize, d: &mut [f64], places: &mut [usize], near: &mu
 }
 
 // A slot's position of the bands table and its bands of the later legs.
-#[derive(Drop)]
+#[derive(Clone, Copy)]
 struct Place {
     b: usize,
     j: usize,

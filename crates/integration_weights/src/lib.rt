@@ -16,7 +16,7 @@ use phonon::{Answer, TotalsMeasures};
 use planes::{index_of, leg_frequencies};
 
 // What stands for the delta function of energy conservation: a Gaussian of a width, a Lorentzian or a box of a half-width.
-#[derive(Drop)]
+#[derive(Clone, Copy)]
 pub enum Shape {
     Gaussian(f64),
     Lorentzian(f64),
@@ -40,7 +40,7 @@ pub fn integration_weights_at_triplet(
           measures = m;
           shape = shape;
           triplet = triplet;
-          bands = bands.entry.now;
+          bands = bands.now;
           frequencies = frequencies.now;
           first = first.old;
           second = second.old;

@@ -44,7 +44,7 @@ pub fn get_interaction_at_triplet(
             settings = settings;
             symmetry = symmetry;
             crystal = record {
-              vectors = vectors.entry.now;
+              vectors = vectors.now;
               multiplicity = multiplicity.now;
               masses = masses.now;
               forces = record {
@@ -58,10 +58,10 @@ pub fn get_interaction_at_triplet(
             };
             grid = record { mesh = mesh; matrix = matrix; addresses = addresses.now };
             bands = bands.now;
-            phonons = record { frequencies = frequencies.entry.now; eigenvectors = eigenvectors.now };
+            phonons = record { frequencies = frequencies.now; eigenvectors = eigenvectors.now };
           };
           triplet = triplet;
-          flags = flags.entry.now;
+          flags = flags.now;
           strengths = strengths.old;
           work = work.old;
         })) }

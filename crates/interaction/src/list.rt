@@ -145,7 +145,7 @@ pub fn get_interaction(
             settings = settings;
             symmetry = symmetry;
             crystal = record {
-              vectors = vectors.entry.now;
+              vectors = vectors.now;
               multiplicity = multiplicity.now;
               masses = masses.now;
               forces = record {
@@ -159,7 +159,7 @@ pub fn get_interaction(
             };
             grid = record { mesh = mesh; matrix = matrix; addresses = addresses.now };
             bands = bands.now;
-            phonons = record { frequencies = frequencies.entry.now; eigenvectors = eigenvectors.now };
+            phonons = record { frequencies = frequencies.now; eigenvectors = eigenvectors.now };
           };
           list = list;
           triplets = triplets.now;

@@ -23,7 +23,7 @@ use refusals::number_of;
 // ---- the table
 
 // A case: what it may change in cell U, and the result that document 01 names.
-#[derive(Drop)]
+#[derive(Clone, Copy)]
 struct Case {
     cutoff: f64,
     averaged: bool,
@@ -364,7 +364,7 @@ fn run_totals(
     )
 }
 
-#[derive(Drop)]
+#[derive(Clone, Copy)]
 enum Door {
     Triplet,
     List,

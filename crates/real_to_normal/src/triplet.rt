@@ -71,7 +71,7 @@ fn slots_of(
         vectors.now multiplicity.now) np
         (record { leg0 = q0.now; leg1 = q1.now; leg2 = q2.now })
         (slot_phonons np (inverse_roots np masses.now)
-        (record { frequencies = frequencies.entry.now; eigenvectors = eigenvectors.now })
+        (record { frequencies = frequencies.now; eigenvectors = eigenvectors.now })
         (record { leg0 = g0; leg1 = g1; leg2 = g2 }) bands.now m) cutoff flags.now
         (at strengths.old m) m))
         × SameOutside work.old work.new 0 (end_at np ns) }

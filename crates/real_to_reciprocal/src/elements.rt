@@ -120,7 +120,7 @@ fn add_two(t: &mut [f64], constants: &[f64], a0: usize, z0: Complex, a1: usize, 
 
 // A block that waits for the next one, to be added with it: z times the 27 force constants from `base` on. If none
 // waits, base is 0.
-#[derive(Drop)]
+#[derive(Clone, Copy)]
 struct Held {
     waits: bool,
     base: usize,

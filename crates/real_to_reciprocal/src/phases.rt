@@ -65,7 +65,7 @@ fn cis(x: f64) -> Complex
 }
 
 // A number of each leg.
-#[derive(Drop)]
+#[derive(Clone, Copy)]
 struct Factors {
     leg0: Complex,
     leg1: Complex,

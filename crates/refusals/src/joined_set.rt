@@ -45,7 +45,7 @@ pub fn check_joined(
             settings = settings;
             symmetry = symmetry;
             crystal = record {
-              vectors = vectors.entry.now;
+              vectors = vectors.now;
               multiplicity = multiplicity.now;
               masses = masses.now;
               forces = record {
@@ -59,10 +59,10 @@ pub fn check_joined(
             };
             grid = record { mesh = mesh; matrix = matrix; addresses = addresses.now };
             bands = bands.now;
-            phonons = record { frequencies = frequencies.entry.now; eigenvectors = eigenvectors.now };
+            phonons = record { frequencies = frequencies.now; eigenvectors = eigenvectors.now };
           };
           triplet = triplet;
-          flags = flags.entry.now;
+          flags = flags.now;
           bath = bath;
           first = first.now;
           second = second.now;

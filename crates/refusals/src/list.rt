@@ -43,7 +43,7 @@ pub fn check_list(
             settings = settings;
             symmetry = symmetry;
             crystal = record {
-              vectors = vectors.entry.now;
+              vectors = vectors.now;
               multiplicity = multiplicity.now;
               masses = masses.now;
               forces = record {
@@ -57,7 +57,7 @@ pub fn check_list(
             };
             grid = record { mesh = mesh; matrix = matrix; addresses = addresses.now };
             bands = bands.now;
-            phonons = record { frequencies = frequencies.entry.now; eigenvectors = eigenvectors.now };
+            phonons = record { frequencies = frequencies.now; eigenvectors = eigenvectors.now };
           };
           list = list;
           triplets = triplets.now;

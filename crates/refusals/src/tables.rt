@@ -80,7 +80,7 @@ pub fn tables_number(
 ) -> u8
     requires { measures_ok m ≡ true }
     ensures { result ≡ lowest (table_tests m cutoff (record {
-      vectors = vectors.entry.now;
+      vectors = vectors.now;
       multiplicity = multiplicity.now;
       masses = masses.now;
       forces = record {
@@ -92,7 +92,7 @@ pub fn tables_number(
         constants = constants.now;
       };
     }) (record { mesh = mesh; matrix = matrix; addresses = addresses.now }) bands.now
-        (record { frequencies = frequencies.entry.now; eigenvectors = eigenvectors.now })) }
+        (record { frequencies = frequencies.now; eigenvectors = eigenvectors.now })) }
 {
     let z = sizes_of(m, form);
     let sized = (addresses.len() == z.addresses)

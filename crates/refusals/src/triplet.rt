@@ -43,7 +43,7 @@ pub fn check_triplet(
             settings = settings;
             symmetry = symmetry;
             crystal = record {
-              vectors = vectors.entry.now;
+              vectors = vectors.now;
               multiplicity = multiplicity.now;
               masses = masses.now;
               forces = record {
@@ -57,10 +57,10 @@ pub fn check_triplet(
             };
             grid = record { mesh = mesh; matrix = matrix; addresses = addresses.now };
             bands = bands.now;
-            phonons = record { frequencies = frequencies.entry.now; eigenvectors = eigenvectors.now };
+            phonons = record { frequencies = frequencies.now; eigenvectors = eigenvectors.now };
           };
           triplet = triplet;
-          flags = flags.entry.now;
+          flags = flags.now;
           strengths = v;
           work = w;
         })) m }

@@ -29,7 +29,7 @@ fn digit(b: u8) -> u64
 }
 
 // Sixteen digits, as a number.
-#[derive(Drop)]
+#[derive(Clone, Copy)]
 enum Word {
     Bits(u64),
     Nothing,
@@ -53,7 +53,7 @@ fn word_at(line: &[u8], at: usize) -> Word
 }
 
 // One argument and the answer.
-#[derive(Drop)]
+#[derive(Clone, Copy)]
 enum Pair {
     Of(u64, u64),
     Nothing,

@@ -119,7 +119,7 @@ pub extern "C" fn wirambolo_get_interaction_at_triplet(
             settings = record { anchoring = Foreign.anchoring_of anchoring; cutoff = cutoff };
             symmetry = Foreign.symmetry_of symmetry;
             crystal = record {
-              vectors = vectors.entry.now;
+              vectors = vectors.now;
               multiplicity = multiplicity.now;
               masses = masses.now;
               forces = record {
@@ -131,9 +131,9 @@ pub extern "C" fn wirambolo_get_interaction_at_triplet(
                 constants = constants.now;
               };
             };
-            grid = record { mesh = mesh.entry.now; matrix = matrix.now; addresses = addresses.now };
+            grid = record { mesh = mesh.now; matrix = matrix.now; addresses = addresses.now };
             bands = bands.now;
-            phonons = record { frequencies = frequencies.entry.now; eigenvectors = eigenvectors.now };
+            phonons = record { frequencies = frequencies.now; eigenvectors = eigenvectors.now };
           };
           triplet = triplet.now;
           flags = flags.now;
@@ -220,7 +220,7 @@ pub extern "C" fn wirambolo_get_interaction(
             settings = record { anchoring = Foreign.anchoring_of anchoring; cutoff = cutoff };
             symmetry = Foreign.symmetry_of symmetry;
             crystal = record {
-              vectors = vectors.entry.now;
+              vectors = vectors.now;
               multiplicity = multiplicity.now;
               masses = masses.now;
               forces = record {
@@ -232,9 +232,9 @@ pub extern "C" fn wirambolo_get_interaction(
                 constants = constants.now;
               };
             };
-            grid = record { mesh = mesh.entry.now; matrix = matrix.now; addresses = addresses.now };
+            grid = record { mesh = mesh.now; matrix = matrix.now; addresses = addresses.now };
             bands = bands.now;
-            phonons = record { frequencies = frequencies.entry.now; eigenvectors = eigenvectors.now };
+            phonons = record { frequencies = frequencies.now; eigenvectors = eigenvectors.now };
           };
           list = list;
           triplets = triplets.now;
@@ -388,7 +388,7 @@ pub extern "C" fn wirambolo_joined_at_triplet(
             settings = record { anchoring = Foreign.anchoring_of anchoring; cutoff = cutoff };
             symmetry = Foreign.symmetry_of symmetry;
             crystal = record {
-              vectors = vectors.entry.now;
+              vectors = vectors.now;
               multiplicity = multiplicity.now;
               masses = masses.now;
               forces = record {
@@ -400,9 +400,9 @@ pub extern "C" fn wirambolo_joined_at_triplet(
                 constants = constants.now;
               };
             };
-            grid = record { mesh = mesh.entry.now; matrix = matrix.now; addresses = addresses.now };
+            grid = record { mesh = mesh.now; matrix = matrix.now; addresses = addresses.now };
             bands = bands.now;
-            phonons = record { frequencies = frequencies.entry.now; eigenvectors = eigenvectors.now };
+            phonons = record { frequencies = frequencies.now; eigenvectors = eigenvectors.now };
           };
           triplet = triplet.now;
           flags = flags.now;
