@@ -1,0 +1,20 @@
+-- What is left of each fold over the divisors gives the whole.
+use mathlib.Core.Path.{◌≡◌, refl, ◌∙◌, sym}
+use mathlib.Core.List.{foldl}
+use Prim.Native.Nat.{◌≤◌, ◌-◌}
+use native.Mathlib.Omega.{arith}
+use borrow.Author.Rules.{rules}
+use lib.ListN.{drop}
+use lib.Ieee.{of_bits, of_int}
+use Rattle.phonon.specs.Number.{f1}
+use Rattle.funcs.proofs.Series.{rising, exp_divisors, exp_fold, fold_turn, fold_end}
+use Rattle.funcs.proofs.exp_series_two.Given as goal
+
+abbrev pub invariant-loop-i : goal.invariant-loop-i
+invariant-loop-i l =
+    (l.i ≤ 18)
+    × (foldl (rising l.r) l.p (drop l.i exp_divisors) ≡ foldl (rising l.r) f1 exp_divisors)
+    × (foldl (rising l.s) l.q (drop l.i exp_divisors) ≡ foldl (rising l.s) f1 exp_divisors)
+
+abbrev pub decreases-loop-i : goal.decreases-loop-i
+decreases-loop-i l = 18 - l.i

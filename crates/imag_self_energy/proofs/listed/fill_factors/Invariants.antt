@@ -1,0 +1,30 @@
+-- After j rows, and k pairs of row j, both tables have their factors.
+use Prim.Native.Nat.{◌-◌, ◌≤◌}
+use mathlib.Core.Path.{◌≡◌, refl, ◌∙◌}
+use native.Mathlib.Omega.{arith}
+use lib.ListN.{length, length-set}
+use Rattle.imag_self_energy.specs.Lists.{sum_of, difference_of}
+use Rattle.imag_self_energy.proofs.ListLaws.{Cells, cells_none, cells_step, cells_next, Room, room_of}
+use Rattle.imag_self_energy.proofs.listed.fill_factors.Given as goal
+
+abbrev pub invariant-loop-k : goal.invariant-loop-k
+invariant-loop-k l =
+    (l.k ≤ l.n)
+    × (length l.sums ≡ length l.initial.sums)
+    × (length l.differences ≡ length l.initial.differences)
+    × Cells l.n l.j l.k (sum_of l.seconds l.thirds) l.sums
+    × Cells l.n l.j l.k (difference_of l.seconds l.thirds) l.differences
+
+abbrev pub decreases-loop-k : goal.decreases-loop-k
+decreases-loop-k l = l.n - l.k
+
+abbrev pub invariant-loop-j : goal.invariant-loop-j
+invariant-loop-j l =
+    (l.j ≤ l.n)
+    × (length l.sums ≡ length l.initial.sums)
+    × (length l.differences ≡ length l.initial.differences)
+    × Cells l.n l.j 0 (sum_of l.seconds l.thirds) l.sums
+    × Cells l.n l.j 0 (difference_of l.seconds l.thirds) l.differences
+
+abbrev pub decreases-loop-j : goal.decreases-loop-j
+decreases-loop-j l = l.n - l.j

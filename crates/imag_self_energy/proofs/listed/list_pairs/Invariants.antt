@@ -1,0 +1,27 @@
+-- After k columns, and j pairs of column k, the list has those that both exceed the cutoff.
+use Prim.Native.Nat.{◌+◌, ◌*◌, ◌-◌, ◌≤◌}
+use mathlib.Core.Path.{◌≡◌, refl, sym, ◌∙◌}
+use native.Mathlib.Omega.{arith}
+use native.Mathlib.Nat.{add-mul, one-mul}
+use lib.ListN.{length, length-set}
+use Rattle.phonon.specs.Number.{fold}
+use Rattle.phonon.proofs.Laws.{fold_step}
+use Rattle.imag_self_energy.specs.Lists.{Listed, pair_step, pair_column, pair_walk}
+use Rattle.imag_self_energy.proofs.ListLaws.{listed_none, listed_same, pair_turn, Room, room_of}
+use Rattle.imag_self_energy.proofs.listed.list_pairs.Given as goal
+
+abbrev pub invariant-loop-j : goal.invariant-loop-j
+invariant-loop-j l =
+    (l.j ≤ l.n)
+    × (l.m ≤ l.k * l.n + l.j)
+    × (length l.pairs ≡ length l.initial.pairs)
+    × Listed (l.n * l.n) (λ z g. fold l.j (fold l.k z (pair_column l.cutoff l.n l.seconds l.thirds g)) (pair_step l.cutoff l.n l.seconds g l.k l.q)) l.pairs l.m
+
+abbrev pub decreases-loop-j : goal.decreases-loop-j
+decreases-loop-j l = l.n - l.j
+
+abbrev pub invariant-loop-k : goal.invariant-loop-k
+invariant-loop-k l = (l.k ≤ l.n) × (l.m ≤ l.k * l.n) × (length l.pairs ≡ length l.initial.pairs) × Listed (l.n * l.n) (λ z g. fold l.k z (pair_column l.cutoff l.n l.seconds l.thirds g)) l.pairs l.m
+
+abbrev pub decreases-loop-k : goal.decreases-loop-k
+decreases-loop-k l = l.n - l.k

@@ -1,0 +1,14 @@
+-- After j turns the first j bands of both later legs are held, as in plain_totals.
+use Prim.Native.Nat.{◌-◌, ◌≤◌}
+use mathlib.Core.Path.{◌≡◌, refl, ◌∙◌}
+use native.Mathlib.Omega.{arith}
+use borrow.Author.Rules.{rules}
+use Rattle.imag_self_energy.specs.Bands.{most_bands}
+use Rattle.imag_self_energy.proofs.Laws.{BothHeld, both_none, both_step, both_totals}
+use Rattle.imag_self_energy.proofs.listed.listed_totals.Given as goal
+
+abbrev pub invariant-loop-j : goal.invariant-loop-j
+invariant-loop-j l = (l.j ≤ l.n) × BothHeld l.h l.leg1 l.leg2 most_bands l.j l.seconds l.thirds
+
+abbrev pub decreases-loop-j : goal.decreases-loop-j
+decreases-loop-j l = l.n - l.j

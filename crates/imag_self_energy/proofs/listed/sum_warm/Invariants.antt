@@ -1,0 +1,16 @@
+-- After i turns the sum is that of the first i places of the list.
+use Prim.Native.Nat.{◌-◌, ◌≤◌, ◌<◌}
+use mathlib.Core.Path.{◌≡◌, refl}
+use native.Mathlib.Omega.{arith}
+use borrow.Author.Rules.{rules}
+use lib.ListN.{get_or, length}
+use Rattle.phonon.specs.Number.{◌⊕◌, f0, fold}
+use Rattle.imag_self_energy.specs.Lists.{warm_term}
+use Rattle.imag_self_energy.proofs.Laws.{turn, at_end}
+use Rattle.imag_self_energy.proofs.listed.sum_warm.Given as goal
+
+abbrev pub invariant-loop-i : goal.invariant-loop-i
+invariant-loop-i l = (l.i ≤ l.count) × (l.total ≡ fold l.i f0 (λ k t. t ⊕ warm_term l.weight l.sums l.differences l.x l.y l.v (get_or l.list k 0)))
+
+abbrev pub decreases-loop-i : goal.decreases-loop-i
+decreases-loop-i l = l.count - l.i

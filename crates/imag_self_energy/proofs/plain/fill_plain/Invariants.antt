@@ -1,0 +1,34 @@
+-- After b turns the totals before b are filled; within a turn the sum is that of the columns before k, and of the slots before j.
+use Prim.Native.Nat.{◌-◌, ◌≤◌, ◌<◌}
+use mathlib.Core.Path.{◌≡◌, refl, ◌∙◌}
+use native.Mathlib.Omega.{arith}
+use borrow.Author.Rules.{rules}
+use lib.ListN.{length, length-set}
+use Rattle.phonon.specs.Number.{f0, fold}
+use Rattle.phonon.specs.ImagSelfEnergy.{block}
+use Rattle.imag_self_energy.specs.Bands.{band_at, slot_step, column_sum, band_total}
+use Rattle.imag_self_energy.proofs.Laws.{sized_within, turn, at_end, Filled, filled_none, filled_step, filled_table}
+use Rattle.imag_self_energy.proofs.SlotLaws.{SlotWithin, slot_within, whole}
+use Rattle.imag_self_energy.proofs.plain.fill_plain.Given as goal
+
+abbrev pub invariant-loop-j : goal.invariant-loop-j
+invariant-loop-j l = (l.j ≤ l.n) × (l.total ≡ fold l.j l.initial.total (slot_step l.h l.n l.c l.b l.seconds l.flags l.first l.second l.strengths l.k l.q))
+
+abbrev pub decreases-loop-j : goal.decreases-loop-j
+decreases-loop-j l = l.n - l.j
+
+abbrev pub invariant-loop-k : goal.invariant-loop-k
+invariant-loop-k l = (l.k ≤ l.n) × (l.total ≡ fold l.k f0 (λ i. column_sum l.h l.n l.c l.b l.seconds l.flags l.first l.second l.strengths i (band_at l.thirds i)))
+
+abbrev pub decreases-loop-k : goal.decreases-loop-k
+decreases-loop-k l = l.n - l.k
+
+abbrev pub invariant-loop-b : goal.invariant-loop-b
+invariant-loop-b l =
+    (l.b ≤ l.b-end)
+    × (l.b-end ≡ length l.initial.totals)
+    × (length l.totals ≡ length l.initial.totals)
+    × Filled l.totals l.b (λ i. band_total l.h l.n (block l.weights i) i l.seconds l.thirds l.flags l.first l.second l.strengths)
+
+abbrev pub decreases-loop-b : goal.decreases-loop-b
+decreases-loop-b l = l.b-end - l.b

@@ -1,0 +1,14 @@
+-- After j turns the first j bands of both later legs are held; all held, the sums are those of the bands.
+use Prim.Native.Nat.{◌-◌, ◌≤◌}
+use mathlib.Core.Path.{◌≡◌, refl, ◌∙◌}
+use native.Mathlib.Omega.{arith}
+use borrow.Author.Rules.{rules}
+use Rattle.imag_self_energy.specs.Bands.{plain_bands}
+use Rattle.imag_self_energy.proofs.Laws.{BothHeld, both_none, both_step, both_totals}
+use Rattle.imag_self_energy.proofs.plain.plain_totals.Given as goal
+
+abbrev pub invariant-loop-j : goal.invariant-loop-j
+invariant-loop-j l = (l.j ≤ l.n) × BothHeld l.h l.leg1 l.leg2 plain_bands l.j l.seconds l.thirds
+
+abbrev pub decreases-loop-j : goal.decreases-loop-j
+decreases-loop-j l = l.n - l.j

@@ -1,0 +1,21 @@
+-- After i turns the distances of the first i slots are written, and the place is that of the next.
+use Prim.Native.Nat.{◌+◌, ◌-◌, ◌*◌, ◌<◌, ◌≤◌}
+use native.Mathlib.Omega.{arith}
+use mathlib.Core.Path.{◌≡◌, refl, ap}
+use borrow.Author.Rules.{rules}
+use lib.ListN.{length, length-set}
+use Rattle.phonon.specs.Number.{at}
+use Rattle.integration_weights.specs.Near.{Within, number, Distances}
+use Rattle.integration_weights.proofs.NearLaws.{block_below, frequencies_at, distances_none, distances_next}
+use Rattle.integration_weights.proofs.gaussians.fill_distances.Given as goal
+
+abbrev pub invariant-loop-i : goal.invariant-loop-i
+invariant-loop-i l =
+    (l.i ≤ l.n)
+    × (length l.d ≡ length l.initial.d)
+    × Within (length l.leg1) (length l.leg2) l.p
+    × (number (length l.leg1) (length l.leg2) l.p ≡ number (length l.leg1) (length l.leg2) l.initial.p + l.i)
+    × Distances l.bands l.leg0 l.leg1 l.leg2 (number (length l.leg1) (length l.leg2) l.initial.p) l.i l.d
+
+abbrev pub decreases-loop-i : goal.decreases-loop-i
+decreases-loop-i l = l.n - l.i

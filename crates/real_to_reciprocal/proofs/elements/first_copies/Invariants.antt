@@ -1,0 +1,15 @@
+-- The first copies: after a turns those of a atoms.
+use mathlib.Core.Path.{◌≡◌, refl}
+use Prim.Native.Nat.{ℕ, ◌-◌, ◌<◌, ◌≤◌}
+use lib.ListN.{length, get_or, length-set}
+use Rattle.phonon.specs.Number.{index, int}
+use Rattle.real_to_reciprocal.specs.Copies.{FirstCopy}
+use Rattle.real_to_reciprocal.proofs.CopyLaws.{copies_more}
+use native.Mathlib.Omega.{arith}
+use Rattle.real_to_reciprocal.proofs.elements.first_copies.Given as goal
+
+abbrev pub invariant-loop-a : goal.invariant-loop-a
+invariant-loop-a l = (l.a ≤ l.np) × (length l.first ≡ length l.initial.first) × ((b : ℕ) → b < l.a → FirstCopy l.s2p l.ns (index (int l.p2s b)) 0 (get_or l.first b 0))
+
+abbrev pub decreases-loop-a : goal.decreases-loop-a
+decreases-loop-a l = l.np - l.a

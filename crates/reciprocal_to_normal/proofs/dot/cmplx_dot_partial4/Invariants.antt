@@ -1,0 +1,23 @@
+-- After i blocks each partial sum has i terms; after the join, r terms of the remainder are added.
+use mathlib.Core.Path.{◌≡◌, refl, ap₂, ◌∙◌}
+use Prim.Native.Nat.{◌+◌, ◌*◌, ◌-◌, ◌/◌, ◌%◌, ◌<◌, ◌≤◌}
+use borrow.Author.Rules.{rules}
+use Rattle.phonon.specs.Number.{at, fold}
+use Rattle.phonon.specs.Common.{czero, cadd}
+use Rattle.planes.specs.Split.{split, strided}
+use Rattle.planes.proofs.Products.{row_le}
+use Rattle.reciprocal_to_normal.proofs.DotLaws.{term, lane_to, rest_to, turn, lane_done, first_lane_done, dot_done}
+use native.Mathlib.Omega.{arith}
+use Rattle.reciprocal_to_normal.proofs.dot.cmplx_dot_partial4.Given as goal
+
+abbrev pub invariant-loop-i : goal.invariant-loop-i
+invariant-loop-i l = (l.i ≤ l.q) × (l.s0 ≡ fold l.i czero (λ c. term (split l.w l.xo l.xd) (strided l.w l.yo l.yd l.ys) (4 * c))) × (l.s1 ≡ lane_to l.i (split l.w l.xo l.xd) (strided l.w l.yo l.yd l.ys) 1) × (l.s2 ≡ lane_to l.i (split l.w l.xo l.xd) (strided l.w l.yo l.yd l.ys) 2) × (l.s3 ≡ lane_to l.i (split l.w l.xo l.xd) (strided l.w l.yo l.yd l.ys) 3)
+
+abbrev pub decreases-loop-i : goal.decreases-loop-i
+decreases-loop-i l = l.q - l.i
+
+abbrev pub invariant-loop-r : goal.invariant-loop-r
+invariant-loop-r l = (l.r ≤ l.rest) × (l.s ≡ rest_to l.r l.n (split l.w l.xo l.xd) (strided l.w l.yo l.yd l.ys))
+
+abbrev pub decreases-loop-r : goal.decreases-loop-r
+decreases-loop-r l = l.rest - l.r

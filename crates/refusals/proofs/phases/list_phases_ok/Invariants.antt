@@ -1,0 +1,19 @@
+-- Every triplet before number t is fine.
+use Prim.Native.Nat.{ℕ, ◌+◌, ◌-◌, ◌*◌, ◌≤◌}
+use native.Mathlib.Omega.{arith}
+use mathlib.Core.Path.{◌≡◌, sym}
+use mathlib.Core.Bool.{Bool, true}
+use Rattle.phonon.specs.Tests.{every_below}
+use Rattle.checks.proofs.Laws.{told_good, told_bad, every_bad}
+use Rattle.refusals.specs.Phases.{triplet_fine}
+use Rattle.phonon.proofs.Accepted.{every_none, every_next}
+use Rattle.refusals.proofs.PhaseLaws.{part_located}
+use Rattle.refusals.proofs.phases.list_phases_ok.Given as goal
+
+abbrev pub invariant-loop-t : goal.invariant-loop-t
+invariant-loop-t l =
+    (l.t ≤ l.list)
+    × (every_below (triplet_fine l.atoms l.supercell l.symmetry (record { l.mesh = l.mesh; l.matrix = l.matrix; l.addresses = l.addresses }) l.vectors l.multiplicity l.p2s l.triplets) l.t ≡ true)
+
+abbrev pub decreases-loop-t : goal.decreases-loop-t
+decreases-loop-t l = l.list - l.t

@@ -1,0 +1,15 @@
+-- The columns of each k in turn.
+use native.Mathlib.Omega.{arith}
+use Prim.Native.Nat.{◌≤◌, ◌-◌}
+use mathlib.Core.Path.{◌≡◌, refl}
+use lib.ListN.{length}
+use Rattle.text.specs.Printed.{Printed}
+use Rattle.text.specs.Lines.{lines_below, column_lines, first_band_lines}
+use Rattle.text.proofs.Laws.{lines_more, room_line, printed_none}
+use Rattle.text.proofs.put_first_band.Given as goal
+
+abbrev pub invariant-loop-k : goal.invariant-loop-k
+invariant-loop-k l = (l.k ≤ l.bands) × ((length l.text ≡ length l.initial.text) × Printed l.initial.text l.at (lines_below l.k (λ x. column_lines l.bands l.flags l.strengths l.b x)) l.text l.next)
+
+abbrev pub decreases-loop-k : goal.decreases-loop-k
+decreases-loop-k l = l.bands - l.k
