@@ -166,9 +166,13 @@ def invariants(crate_dir, old_dir, names):
 
 
 def replace_names(text, stand):
+    """Names become what stands for them, but for the field names of a record's text."""
+
     def one(m):
         t = m.group(0)
         head, dot, more = t.partition(".")
+        if not dot and re.match(r" = ", text[m.end():]):
+            return t
         return stand.get(head, head) + dot + more
 
     return re.sub(TOKEN, one, text)
@@ -189,7 +193,7 @@ def flat(text, steps, aliases, goal, helpers):
                 rest[0] = steps[s]
             elif rest[0] == "pre":
                 rest[0] = "requires"
-        rest = ["true" if p == "taken" else p for p in rest]
+        rest = [{"taken": "true", "well-formed": "well_formed", "good": "well_formed"}.get(p, p) for p in rest]
         return ".".join(["c"] + rest)
 
     return re.sub(TOKEN, one, text)
@@ -215,6 +219,9 @@ def turn_answer(body, steps, goal, starts, helpers):
                     changed = True
                     break
     body = flat(body, steps, aliases, goal, helpers)
+    body = re.sub(r", c(\.[\w-]+)*\.well_formed[\w.]*", "", body)
+    for name, place in helpers.items():
+        body = re.sub(r"(?<![\w.'-])%s c(?![\w.'-])" % re.escape(name), f"{name} (goal.at.{goal} c).{place}", body)
     return body
 
 
@@ -247,7 +254,7 @@ def answers(crate_dir, old_dir, names, log):
         printed = [l for l in files["Answers"] if l.startswith("use ")]
         if not os.path.exists(path) or not e:
             print(f"{f}: no old proof: {wanted}")
-            old, found, steps, starts = None, {}, {}, []
+            old, found, steps, starts, lemmas = None, {}, {}, [], []
         else:
             old = Old(path)
             new_of = {norm(a): b for a, b in e["needs"]}
@@ -257,7 +264,7 @@ def answers(crate_dir, old_dir, names, log):
                 n = need(d["head"])
                 if n is not None:
                     found[new_of.get(n, n)] = d
-                elif re.search(r": tie\.\S+.* → tie\.", d["head"]):
+                elif re.search(r": tie\.\S+.* → tie\.", d["head"]) and re.search(r"(?s)= \w+(\.before)+\s*$", "\n".join(d["lines"])):
                     starts.append(d["name"])
                 elif d["name"].startswith(("invariant-", "decreases-")) or "→ statement" in d["head"]:
                     pass
@@ -266,23 +273,40 @@ def answers(crate_dir, old_dir, names, log):
         out = list(old.comment) if old else []
         head = uses_of(old, crate, f, "Goals") if old else printed
         out += head
-        if old:
-            for d in lemmas:
-                if d["name"] == "" and not d["head"]:
-                    continue
-                text = d["head"] + "\n" + "\n".join(d["lines"])
-                text = re.sub(r"tie\.(%s)((?: invariant-\S+| decreases-\S+)*)" % TOKEN, lambda m: places.get(norm(m.group(1)), m.group(1)), text)
-                text = flat(text, steps, {"c": "c", "b": "b"}, None, None) if "c :" in text or "c." in text else text
-                out += [""] + d["comments"] + text.split("\n")
+        helpers, used, texts = {}, set(), []
+        for d in lemmas if old else []:
+            if d["name"] == "" and not d["head"]:
+                continue
+            text = d["head"] + "\n" + "\n".join(d["lines"])
+            taken = re.search(r"\((\S+) : tie\.(%s)" % TOKEN, d["head"])
+            place = places.get(norm(taken.group(2)), taken.group(2)) if taken else None
+            text = re.sub(r"tie\.(%s)((?: invariant-\S+| decreases-\S+)*)" % TOKEN, lambda m: places.get(norm(m.group(1)), m.group(1)), text)
+            if place:
+                used.add(place)
+                names_in = [d["name"]] if d["name"] != "_" else re.findall(r"(?m)^  (?:abbrev |pub )*(\S+) :", text)
+                helpers.update({n: place for n in names_in})
+                text = turn_answer(text, steps, "", starts, {})
+            texts.append((d["comments"], text))
+        if used:
+            out.append(f"use Rattle.{crate}.proofs.{rest_of(f)}.Goals.{{{', '.join(sorted(used))}}}")
+        for comments, text in texts:
+            out += [""] + comments + text.split("\n")
         for g in wanted:
             d = found.get(g)
+            whole = found.get(re.sub(r"-clause-[\w]+$", "", g)) if not d else None
             out.append("")
-            if not d:
+            body = "\n".join((d or whole or {"lines": []})["lines"])
+            m = re.match(r"(?s)\s*((?:unfolding [^\n]*\n)?)\s*(\S+)((?: +\S+)*?) =\s(.*)$", body)
+            if not m:
+                if body:
+                    out += ["-- OLD: " + l for l in body.split("\n")]
                 out += [f"pub {g} : goal.{g}", f"{g} c = ?"]
                 continue
-            body = "\n".join(d["lines"])
-            m = re.match(r"(?s)\s*((?:unfolding [^\n]*\n)?)\s*(\S+)((?: +\S+)*?) =\s(.*)$", body)
-            text = turn_answer(m.group(4), steps, g, starts, [])
+            text = turn_answer(m.group(4), steps, g, starts, helpers)
+            if whole:
+                out += ["-- OLD, of all clauses: " + l for l in text.split("\n")] + [f"pub {g} : goal.{g}"]
+                out += [m.group(1).strip()] * bool(m.group(1)) + [f"{g} c = ?"]
+                continue
             one = "\n" not in text.strip()
             out += d["comments"] + [f"pub {g} : goal.{g}"]
             if m.group(1):

@@ -13,7 +13,7 @@ use Rattle.refusals.proofs.phases.list_phases_ok.Given as goal
 abbrev pub invariant-loop-t : goal.invariant-loop-t
 invariant-loop-t l =
     (l.t ≤ l.list)
-    × (every_below (triplet_fine l.atoms l.supercell l.symmetry (record { l.mesh = l.mesh; l.matrix = l.matrix; l.addresses = l.addresses }) l.vectors l.multiplicity l.p2s l.triplets) l.t ≡ true)
+    × (every_below (triplet_fine l.atoms l.supercell l.symmetry (record { mesh = l.mesh; matrix = l.matrix; addresses = l.addresses }) l.vectors l.multiplicity l.p2s l.triplets) l.t ≡ true)
 
 abbrev pub decreases-loop-t : goal.decreases-loop-t
 decreases-loop-t l = l.list - l.t
