@@ -38,7 +38,7 @@ class Old:
             if not l.strip():
                 block = None
                 continue
-            if not l[0].isspace() and re.match(r"(pub |abbrev |unfoldable |module |record |data )*%s.*( : | where)" % TOKEN, l) or l.startswith("module _"):
+            if not l[0].isspace() and (re.match(r"(pub |abbrev |unfoldable |module |record |data )*%s.*( : | where)" % TOKEN, l) and " = " not in l.split(" : ")[0] or l.startswith("module _")):
                 head = re.match(r"(?:pub |abbrev |unfoldable |module |record |data )*(%s)" % TOKEN, l).group(1)
                 block = {"name": head, "head": l, "lines": [], "comments": comments}
                 comments = []

@@ -3,9 +3,8 @@ use Rattle.std.proofs.Common.{◌≡◌, ◌-◌, ◌*◌, ◌^◌, ◌<◌, ◌
 use Rattle.common.proofs.Patterns.{normal_value, subnormal_value, doubled, low_exponent}
 use Rattle.common.proofs.normalised.Goals as goal
 
--- OLD, of all clauses: (normal_value c.args.pattern c.requires.1 c.if-field-gt0.true, (omega arith, omega arith, omega arith, omega arith))
 pub returns-then-field-gt0-clause-has_value : goal.returns-then-field-gt0-clause-has_value
-returns-then-field-gt0-clause-has_value c = ?
+returns-then-field-gt0-clause-has_value c = normal_value c.args.pattern c.requires.1 c.if-field-gt0.true
 
 pub loop-digits-preserved : goal.loop-digits-preserved
 loop-digits-preserved c =
@@ -13,14 +12,14 @@ loop-digits-preserved c =
     let low = low_exponent c.loop-digits.digits c.loop-digits.exponent c.args.pattern c.requires.0 v.2 v.0 in
     (doubled c.loop-digits.digits c.loop-digits.exponent (omega arith) ∙ v.0, omega arith, omega arith, omega arith)
 
--- OLD, of all clauses:     let v = c.loop-digits.invariant in
--- OLD, of all clauses:     let low = low_exponent c.loop-digits.digits c.loop-digits.exponent c.args.pattern c.requires.0 v.2 v.0 in
--- OLD, of all clauses:     (subnormal_value c.args.pattern c.loop-digits.digits c.loop-digits.exponent (omega arith) v.0, (omega arith, v.2, omega arith, omega arith))
 pub returns-clause-has_value : goal.returns-clause-has_value
-returns-clause-has_value c = ?
+returns-clause-has_value c =
+    let v = c.loop-digits.invariant in
+    let low = low_exponent c.loop-digits.digits c.loop-digits.exponent c.args.pattern c.requires.0 v.2 v.0 in
+    subnormal_value c.args.pattern c.loop-digits.digits c.loop-digits.exponent (omega arith) v.0
 
--- OLD, of all clauses:     let v = c.loop-digits.invariant in
--- OLD, of all clauses:     let low = low_exponent c.loop-digits.digits c.loop-digits.exponent c.args.pattern c.requires.0 v.2 v.0 in
--- OLD, of all clauses:     (subnormal_value c.args.pattern c.loop-digits.digits c.loop-digits.exponent (omega arith) v.0, (omega arith, v.2, omega arith, omega arith))
 pub returns-clause-bound : goal.returns-clause-bound
-returns-clause-bound c = ?
+returns-clause-bound c =
+    let v = c.loop-digits.invariant in
+    let low = low_exponent c.loop-digits.digits c.loop-digits.exponent c.args.pattern c.requires.0 v.2 v.0 in
+    (omega arith, v.2, omega arith, omega arith)

@@ -9,10 +9,11 @@ use lib.Ieee.Exact.{HasValue}
 use lib.Ieee.Bits.{of_bits-to_bits}
 use Rattle.phonon.specs.Root.{root}
 use Rattle.phonon.proofs.Order.{level_zero}
+use Rattle.common.specs.Rounded.{Rounded}
 use Rattle.common.proofs.RootLaws.{digits_low, digits_high}
 use Rattle.common.proofs.RootFloat.{not_nan, pattern_pos, infinite, root_is, pattern_is, even_split, odd_split, units_pattern}
 use Rattle.common.proofs.root.Goals as goal
-use Rattle.common.proofs.root.Goals.{After-rounded_root-t, Joined-e-eq0}
+use Rattle.common.proofs.root.Goals.{Joined-e-eq0, then-e-eq0, else-e-eq0}
 
 -- what the two arms leave
 record Shifted (d E m : ℕ) : Type 0 where
@@ -23,18 +24,15 @@ record Shifted (d E m : ℕ) : Type 0 where
 shifted : (c : Joined-e-eq0) → Shifted c.normalised-v.result.digits c.normalised-v.result.exponent c.if-e-eq0.m
 shifted c =
     let r = c.normalised-v.result in
-    let b = c.normalised-v.ensures.1 in
-    ⊎_elim
-    (λ w. rw w.1 (record { low = omega arith; high = omega arith; value = even_split r.digits r.exponent b.2 w.0.taken }))
-    (λ w. rw w.1 (record { low = omega arith; high = omega arith; value = odd_split r.digits r.exponent b.2 w.0.left }))
-    c.if-e-eq0.branch
+    let b = c.normalised-v.ensures.bound in
+    elim c.if-e-eq0.branch [
+      then-e-eq0 w ↦ rw w.m-is (record { low = omega arith; high = omega arith; value = even_split r.digits r.exponent b.2 w.if-e-eq0.true })
+      | else-e-eq0 w ↦ rw w.m-is (record { low = omega arith; high = omega arith; value = odd_split r.digits r.exponent b.2 w.if-e-eq0.false })
+    ]
 
 -- the result has 53 digits
-digits : (c : After-rounded_root-t) → (2 ^ 52 ≤ c.rounded_root-t.result) × (c.rounded_root-t.result ≤ 2 ^ 53)
-digits c =
-    let s = shifted c in
-    let m = c.if-e-eq0.m in
-    (digits_low (m * 2 ^ 52) c.rounded_root-t.result (omega arith) c.rounded_root-t.ensures, digits_high (m * 2 ^ 52) c.rounded_root-t.result (omega arith) c.rounded_root-t.ensures)
+digits : (m t : ℕ) → 2 ^ 52 ≤ m → m < 2 ^ 54 → Rounded (m * 2 ^ 52) t → (2 ^ 52 ≤ t) × (t ≤ 2 ^ 53)
+digits m t low high r = (digits_low (m * 2 ^ 52) t (omega arith) r, digits_high (m * 2 ^ 52) t (omega arith) r)
 
 zero_root : (x : Float) → eq x (of_bits binary64 0) ≡ true → x ≡ root x
 unfolding eq of_bits root
@@ -61,7 +59,10 @@ pub normalised-v-requires : goal.normalised-v-requires
 normalised-v-requires c = (pattern_pos c.args.x (passes _ c.well_formed.0.1) c.if-x.true, c.if-pattern-ge9218868437227405312.false)
 
 pub float_from_bits-result : goal.float_from_bits-result
-float_from_bits-result c = units_pattern c.rounded_root-t.result (c.normalised-v.result.exponent / 2 - 26) (digits (goal.at.float_from_bits-result c).After-rounded_root-t).0 (digits (goal.at.float_from_bits-result c).After-rounded_root-t).1 (omega (arith, c.normalised-v.ensures.1.3))
+float_from_bits-result c =
+    let s = shifted (goal.at.float_from_bits-result c).Joined-e-eq0 in
+    let d = digits c.if-e-eq0.m c.rounded_root-t.result s.low s.high c.rounded_root-t.ensures in
+    units_pattern c.rounded_root-t.result (c.normalised-v.result.exponent / 2 - 26) d.0 d.1 (omega (arith, c.normalised-v.ensures.bound.3))
 
 pub returns-then-x : goal.returns-then-x
 returns-then-x c =
@@ -69,11 +70,12 @@ returns-then-x c =
     let f = passes _ c.well_formed.0.1 in
     let n = c.normalised-v in
     let s = shifted (goal.at.returns-then-x c).Joined-e-eq0 in
-    let b = n.ensures.1 in
+    let b = n.ensures.bound in
     let m = c.if-e-eq0.m in
-    pattern_is c.rounded_root-t.result (n.result.exponent / 2 - 26) (digits (goal.at.returns-then-x c).After-rounded_root-t).0 (digits (goal.at.returns-then-x c).After-rounded_root-t).1 (omega (arith, b.3))
+    let d = digits m c.rounded_root-t.result s.low s.high c.rounded_root-t.ensures in
+    pattern_is c.rounded_root-t.result (n.result.exponent / 2 - 26) d.0 d.1 (omega (arith, b.3))
     ∙ sym (root_is x n.result.digits n.result.exponent (m * 2 ^ 52) c.rounded_root-t.result c.if-x.true
-    (subst (λ (v : Float). HasValue v false (n.result.digits * 2 ^ n.result.exponent) (2 ^ 2148)) (of_bits-to_bits binary64 x f) n.ensures.0)
+    (subst (λ (v : Float). HasValue v false (n.result.digits * 2 ^ n.result.exponent) (2 ^ 2148)) (of_bits-to_bits binary64 x f) n.ensures.has_value)
     b.0 b.1 b.2 s.value (omega arith) (omega arith) c.rounded_root-t.ensures)
 
 pub returns-then-x-2 : goal.returns-then-x-2

@@ -3,10 +3,11 @@
 use Rattle.std.proofs.Common.{◌≡◌, ◌-◌, ⊎_elim, arith}
 use Rattle.common.proofs.Squares.{Turn, turn_up, turn_down, stay, go_up}
 use Rattle.common.proofs.rounded_root.Goals as goal
+use Rattle.common.proofs.rounded_root.Goals.{then-root-have, else-root-have}
 
 pub loop-i-preserved : goal.loop-i-preserved
 loop-i-preserved c =
     let l = c.loop-i in
     let m = c.args.m in
     let h = c.loop-i-test.true in
-    ⊎_elim (λ w. rw (w.1, w.2) (turn_up m l.digits l.root l.rest l.i l.invariant h w.0.taken)) (λ w. rw (w.1, w.2) (turn_down m l.digits l.root l.rest l.i l.invariant h w.0.left)) c.if-root-have.branch
+    elim c.if-root-have.branch [ then-root-have w ↦ rw (w.root-is, w.rest-is) (turn_up m l.digits l.root l.rest l.i l.invariant h w.if-root-have.true) | else-root-have w ↦ rw (w.root-is, w.rest-is) (turn_down m l.digits l.root l.rest l.i l.invariant h w.if-root-have.false) ]
