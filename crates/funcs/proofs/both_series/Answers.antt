@@ -1,0 +1,24 @@
+-- `funcs::both_series` meets its contract: what is left of the two folds over the divisors gives the whole. Assumes nothing.
+use mathlib.Core.Path.{◌≡◌, refl, ◌∙◌, sym}
+use mathlib.Core.List.{foldl}
+use Prim.Native.Nat.{◌≤◌, ◌-◌}
+use native.Mathlib.Omega.{arith}
+use borrow.Author.Rules.{rules}
+use lib.ListN.{drop}
+use lib.Ieee.{of_bits, of_int}
+use Rattle.phonon.specs.Number.{f1}
+use Rattle.funcs.proofs.Series.{alternating, sine_divisors, cosine_divisors, sine_fold, cosine_fold, fold_turn, fold_end}
+use Rattle.funcs.proofs.both_series.Goals as goal
+
+pub loop-i-preserved : goal.loop-i-preserved
+unfolding of_bits of_int
+loop-i-preserved c =
+    let l = c.loop-i in
+    let z = c.args.z in
+    (omega arith, fold_turn (alternating z) l.s sine_divisors l.i (omega (arith, c.loop-i-test.true)) ∙ l.invariant.1, fold_turn (alternating z) l.c cosine_divisors l.i (omega (arith, c.loop-i-test.true)) ∙ l.invariant.2)
+
+pub returns : goal.returns
+returns c =
+    let l = c.loop-i in
+    let z = c.args.z in
+    rw (sine_fold z, cosine_fold z, sym l.invariant.1, sym l.invariant.2, fold_end (alternating z) l.s sine_divisors l.i (omega arith), fold_end (alternating z) l.c cosine_divisors l.i (omega arith)) refl

@@ -1,0 +1,29 @@
+-- What is left of each fold over the divisors gives the whole.
+use mathlib.Core.Path.{◌≡◌, refl, ◌∙◌, sym}
+use mathlib.Core.List.{foldl}
+use Prim.Native.Nat.{◌≤◌, ◌-◌}
+use native.Mathlib.Omega.{arith}
+use borrow.Author.Rules.{rules}
+use lib.ListN.{drop}
+use lib.Ieee.{of_bits, of_int}
+use Rattle.phonon.specs.Number.{f1}
+use Rattle.funcs.proofs.Series.{rising, exp_divisors, exp_fold, fold_turn, fold_end}
+use Rattle.funcs.proofs.exp_series_two.Goals as goal
+
+pub loop-i-preserved : goal.loop-i-preserved
+unfolding of_bits of_int
+loop-i-preserved c =
+    let l = c.loop-i in
+    let a = c.args in (
+      omega arith,
+      fold_turn (rising a.r) l.p exp_divisors l.i (omega (arith, c.loop-i-test.true)) ∙ l.invariant.1,
+      fold_turn (rising a.s) l.q exp_divisors l.i (omega (arith, c.loop-i-test.true)) ∙ l.invariant.2,
+    )
+
+pub returns : goal.returns
+returns c =
+    let l = c.loop-i in
+    let a = c.args in (
+      sym (fold_end (rising a.r) l.p exp_divisors l.i (omega arith)) ∙ l.invariant.1 ∙ sym (exp_fold a.r),
+      sym (fold_end (rising a.s) l.q exp_divisors l.i (omega arith)) ∙ l.invariant.2 ∙ sym (exp_fold a.s),
+    )
