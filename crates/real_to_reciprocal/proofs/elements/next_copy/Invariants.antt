@@ -7,5 +7,8 @@ use Rattle.phonon.specs.Number.{index, int}
 use native.Mathlib.Omega.{arith}
 use Rattle.real_to_reciprocal.proofs.elements.next_copy.Given as goal
 
+abbrev pub invariant-loop-k : goal.invariant-loop-k
+invariant-loop-k l = (l.from ≤ l.k) × (l.k ≤ l.ns) × ((m : ℕ) → l.from ≤ m → m < l.k → index (int l.s2p m) ≡ l.y → ⊥)
+
 abbrev pub decreases-loop-k : goal.decreases-loop-k
 decreases-loop-k l = l.ns - l.k

@@ -1,0 +1,7 @@
+-- The mean of the three legs' sums times their pre-factors is the definition's element.
+use Rattle.real_to_reciprocal.proofs.BlockLaws.{averaged_of}
+use borrow.Author.Rules.{rules}
+use Rattle.real_to_reciprocal.proofs.blocks.r0_average_block.Goals as goal
+
+pub returns : goal.returns
+returns c = averaged_of _ _ _ _ _ _ c.leg_block.ensures c.leg_block-2.ensures c.leg_block-3.ensures c.average.ensures

@@ -1,0 +1,18 @@
+-- The pre-factors: after i turns those of i atoms.
+use mathlib.Core.Path.{◌≡◌}
+use Prim.Native.Nat.{◌-◌, ◌<◌, ◌≤◌}
+use lib.ListN.{length}
+use Rattle.phonon.specs.RealToReciprocal.{pre_factor_entry}
+use Rattle.planes.specs.Split.{WroteSplit}
+use Rattle.planes.proofs.SplitLaws.{split_none, split_step}
+use Rattle.phonon.proofs.Accepted.{index_below}
+use Rattle.real_to_reciprocal.proofs.PhaseLaws.{anchor_in}
+use native.Mathlib.Omega.{arith}
+use Rattle.real_to_reciprocal.proofs.phases.pre_phase_factors.Goals as goal
+
+pub get_pre_phase_factor-z-requires : goal.get_pre_phase_factor-z-requires
+get_pre_phase_factor-z-requires c =
+    let a = c.requires.1 in
+    let l : c.loop-i.i < length c.args.p2s.now = omega (arith, a.atoms) in
+    let e = anchor_in c.args.np c.args.vectors.now c.args.multiplicity.now c.args.p2s.now c.loop-i.i a.ranged (omega arith) (index_below _ _ a.some a.anchors _ l) in
+    (l, e.0, e.1)
