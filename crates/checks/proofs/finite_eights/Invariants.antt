@@ -1,13 +1,9 @@
 -- Eight entries that are finite are passed at once.
 use Prim.Native.Nat.{◌-◌}
-use mathlib.Core.Path.{sym, ◌∙◌}
-use native.Mathlib.Omega.{arith}
-use borrow.Author.Rules.{rules}
 use lib.ListN.{length}
 use Rattle.phonon.specs.Number.{at}
 use Rattle.phonon.specs.Tests.{finite}
 use Rattle.checks.specs.Scan.{Passed}
-use Rattle.checks.proofs.Laws.{passed_none, passed_many}
 use Rattle.checks.proofs.finite_eights.Given as goal
 
 abbrev pub invariant-loop-i : goal.invariant-loop-i

@@ -1,12 +1,9 @@
 -- The entries before i are passed, eight by eight and then one by one.
 use Prim.Native.Nat.{◌-◌}
-use mathlib.Core.Path.{sym, ◌∙◌}
-use borrow.Author.Rules.{rules}
 use lib.ListN.{length}
 use Rattle.phonon.specs.Number.{at}
 use Rattle.phonon.specs.Tests.{finite}
 use Rattle.checks.specs.Scan.{Passed}
-use Rattle.checks.proofs.Laws.{passed_more, first_here, first_none}
 use Rattle.checks.proofs.first_not_finite.Given as goal
 
 abbrev pub invariant-loop-i : goal.invariant-loop-i

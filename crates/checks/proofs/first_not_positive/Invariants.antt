@@ -1,11 +1,9 @@
 -- The entries before i are passed.
 use Prim.Native.Nat.{◌-◌}
-use borrow.Author.Rules.{rules}
 use lib.ListN.{length}
 use lib.Ieee.{lt}
 use Rattle.phonon.specs.Number.{f0, at}
 use Rattle.checks.specs.Scan.{Passed}
-use Rattle.checks.proofs.Laws.{passed_none, passed_more, first_here, first_none}
 use Rattle.checks.proofs.first_not_positive.Given as goal
 
 abbrev pub invariant-loop-i : goal.invariant-loop-i

@@ -1,10 +1,7 @@
 -- After each turn the sixteen sums tell of the entries before i; the joined sum tells of the sixteen.
 use Prim.Native.Nat.{◌-◌}
-use mathlib.Core.Path.{sym, ◌∙◌}
-use native.Mathlib.Omega.{arith}
-use borrow.Author.Rules.{rules}
 use lib.ListN.{length}
-use Rattle.checks.proofs.Laws.{passed_none, Summed, summed_none, summed_more, joined_sixteen}
+use Rattle.checks.proofs.Laws.{Summed}
 use Rattle.checks.proofs.summed_sixteens.Given as goal
 
 abbrev pub invariant-loop-i : goal.invariant-loop-i
