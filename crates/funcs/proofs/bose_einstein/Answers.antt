@@ -1,5 +1,4 @@
 -- `funcs::bose_einstein` meets its contract. Assumes nothing.
-use borrow.Author.Rules.{rules}
 use Rattle.phonon.specs.Funcs.{excess, bose_einstein}
 use Rattle.funcs.proofs.bose_einstein.Goals as goal
 

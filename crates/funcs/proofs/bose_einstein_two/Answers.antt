@@ -1,5 +1,4 @@
 -- The source's formula, of each.
-use borrow.Author.Rules.{rules}
 use mathlib.Core.Path.{refl}
 use Rattle.phonon.specs.Funcs.{excess, bose_einstein}
 use Rattle.funcs.proofs.bose_einstein_two.Goals as goal

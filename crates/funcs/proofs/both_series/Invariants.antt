@@ -1,13 +1,10 @@
 -- `funcs::both_series` meets its contract: what is left of the two folds over the divisors gives the whole. Assumes nothing.
-use mathlib.Core.Path.{◌≡◌, refl, ◌∙◌, sym}
+use mathlib.Core.Path.{◌≡◌}
 use mathlib.Core.List.{foldl}
 use Prim.Native.Nat.{◌≤◌, ◌-◌}
-use native.Mathlib.Omega.{arith}
-use borrow.Author.Rules.{rules}
 use lib.ListN.{drop}
-use lib.Ieee.{of_bits, of_int}
 use Rattle.phonon.specs.Number.{f1}
-use Rattle.funcs.proofs.Series.{alternating, sine_divisors, cosine_divisors, sine_fold, cosine_fold, fold_turn, fold_end}
+use Rattle.funcs.proofs.Series.{alternating, sine_divisors, cosine_divisors}
 use Rattle.funcs.proofs.both_series.Given as goal
 
 abbrev pub invariant-loop-i : goal.invariant-loop-i

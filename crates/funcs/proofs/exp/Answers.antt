@@ -2,7 +2,6 @@
 -- Assumes nothing.
 use mathlib.Core.Path.{◌≡◌, refl, sym, ap, ◌∙◌}
 use mathlib.Core.Bool.{Bool, true, false}
-use borrow.Author.Rules.{rules}
 use lib.Ieee.{Float, of_bits, of_int, div, lt, le}
 use Rattle.phonon.specs.Number.{f0}
 use Rattle.phonon.specs.Exp.{exp, by_range}
@@ -13,15 +12,13 @@ use Rattle.funcs.proofs.exp.Goals as goal
 -- the definition at what the two tests say
 exp_at : (x : Float) (a b : Bool) → lt limit x ≡ a → le f0 x ≡ b → exp x ≡ by_range a b x
 unfolding exp
-
 exp_at x a b h l = ap (λ (t : Bool). by_range t (le f0 x) x) h ∙ ap (λ (t : Bool). by_range a t x) l
-
 
 pub returns-then-is_reducible : goal.returns-then-is_reducible
 unfolding of_bits of_int
 returns-then-is_reducible c =
     let r = c.reduce-a.ensures in
-        let p = c.exp_series_two-p.ensures in
+    let p = c.exp_series_two-p.ensures in
     exp_parts c.args.x _ _ (sym c.is_reducible.ensures ∙ c.if-is_reducible.true) (p.0 ∙ rw r.0 refl) r.1
 
 pub returns-then-x : goal.returns-then-x

@@ -1,12 +1,7 @@
 -- What is left of each fold over the divisors gives the whole.
-use mathlib.Core.Path.{◌≡◌, refl, ◌∙◌, sym}
-use mathlib.Core.List.{foldl}
-use Prim.Native.Nat.{◌≤◌, ◌-◌}
+use mathlib.Core.Path.{◌∙◌, sym}
 use native.Mathlib.Omega.{arith}
-use borrow.Author.Rules.{rules}
-use lib.ListN.{drop}
 use lib.Ieee.{of_bits, of_int}
-use Rattle.phonon.specs.Number.{f1}
 use Rattle.funcs.proofs.Series.{rising, exp_divisors, exp_fold, fold_turn, fold_end}
 use Rattle.funcs.proofs.exp_series_two.Goals as goal
 

@@ -1,6 +1,5 @@
 -- Where both numbers are in the range, each exponential comes from its parts; elsewhere each is worked alone.
 use mathlib.Core.Path.{refl, ◌∙◌}
-use borrow.Author.Rules.{rules}
 use lib.Ieee.{of_bits, of_int}
 use Rattle.funcs.proofs.Reducible.{both, exp_parts}
 use Rattle.funcs.proofs.exp_two.Goals as goal

@@ -1,5 +1,4 @@
 -- `funcs::floor_parts` meets its contract: the sum is one of the whole numbers around, and the comparison says which. Assumes nothing.
-use borrow.Author.Rules.{rules}
 use Rattle.funcs.proofs.Shift.{found}
 use Rattle.funcs.proofs.floor_parts.Goals as goal
 

@@ -1,5 +1,4 @@
 -- `funcs::power_of_two` meets its contract. Assumes nothing.
-use borrow.Author.Rules.{rules}
 use lib.IntN.{pos}
 use mathlib.Core.Bool.{false}
 use Rattle.funcs.proofs.Powers.{power_pattern, finite_pattern}

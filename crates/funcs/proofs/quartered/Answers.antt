@@ -1,10 +1,7 @@
 -- The floor of the quarter turns, and what is left, as the definition has them.
-use mathlib.Core.Path.{refl}
-use native.Mathlib.Omega.{arith}
 use lib.Dec.{lit≤}
-use lib.Ieee.{of_bits, of_int, neg}
-use Rattle.phonon.specs.Trig.{in_domain, floor, quarters}
-use Rattle.funcs.proofs.Floor.{quadrant_small}
+use lib.Ieee.{of_bits, neg}
+use Rattle.phonon.specs.Trig.{in_domain}
 use Rattle.floats.proofs.Bounds.{within_mul, within_add}
 use Rattle.funcs.proofs.Quarters.{tested}
 use Rattle.funcs.proofs.quartered.Goals as goal

@@ -2,7 +2,6 @@
 use mathlib.Core.Path.{◌≡◌, refl, sym, ◌∙◌}
 use mathlib.Core.List.{List, [], ◌∷◌}
 use mathlib.Core.Bool.{Bool, true, ◌&&◌}
-use borrow.Author.Rules.{rules}
 use lib.Ieee.{Float, of_bits, of_int}
 use Rattle.phonon.specs.Number.{at}
 use Rattle.phonon.specs.Trig.{in_domain}
@@ -26,7 +25,7 @@ pub returns-then-in_domain : goal.returns-then-in_domain
 unfolding of_bits of_int
 returns-then-in_domain c =
     let p = six c.three_series-p.ensures in
-            let h = all_three _ _ _ c.in_domain.ensures c.in_domain-2.ensures c.in_domain-3.ensures c.if-in_domain.true in
+    let h = all_three _ _ _ c.in_domain.ensures c.in_domain-2.ensures c.in_domain-3.ensures c.if-in_domain.true in
     let a = c.quartered-a.ensures in
     let b = c.quartered-b.ensures in
     let d = c.quartered-c.ensures in (

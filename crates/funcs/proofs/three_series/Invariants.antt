@@ -1,12 +1,10 @@
 -- What is left of the six folds over the divisors gives the whole.
-use mathlib.Core.Path.{◌≡◌, refl, ◌∙◌, sym}
+use mathlib.Core.Path.{◌≡◌}
 use mathlib.Core.List.{foldl}
 use Prim.Native.Nat.{◌≤◌, ◌-◌}
-use native.Mathlib.Omega.{arith}
-use borrow.Author.Rules.{rules}
 use lib.ListN.{drop}
 use Rattle.phonon.specs.Number.{f1}
-use Rattle.funcs.proofs.Series.{alternating, fold_turn, fold_end}
+use Rattle.funcs.proofs.Series.{alternating}
 use Rattle.funcs.proofs.three_series.Given as goal
 
 abbrev pub invariant-loop-i : goal.invariant-loop-i
