@@ -8,7 +8,7 @@
  *   wirambolo_joined_at_triplet                the strengths and the totals of one triplet
  *   wirambolo_integration_weights_at_triplet   the weights and the flags of one triplet, from a shape
  *
- * Link with libwirambolo_c.a (made by `rt staticlib wirambolo_c`, in target/staticlib), which needs
+ * Link with libwirambolo_c.a (made by `tools/build wirambolo_c`, in target/staticlib), which needs
  * nothing but memcpy and memset of the C library.
  *
  *

@@ -357,7 +357,7 @@ def load(path=None):
         path = os.environ.get("WIRAMBOLO_SO") or DEFAULT
     if not Path(path).is_file():
         raise FileNotFoundError(
-            f"{path} is not there. Build the static library with `rt staticlib wirambolo_c` and make the shared object"
+            f"{path} is not there. Build the static library with `tools/build wirambolo_c` and make the shared object"
             " by the command at the top of bindings/python/wirambolo.py, or name it in WIRAMBOLO_SO."
         )
     return Library(path)

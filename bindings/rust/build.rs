@@ -17,7 +17,7 @@ fn main() {
     println!("cargo:rerun-if-changed={}", library.display());
     let Ok(library) = library.canonicalize() else {
         eprintln!("{} is not there.", library.display());
-        eprintln!("Build it with `rt staticlib wirambolo_c` at the top of the repository,");
+        eprintln!("Build it with `tools/build wirambolo_c` at the top of the repository,");
         eprintln!(
             "or name its folder, by its full path, in the environment variable WIRAMBOLO_LIB."
         );

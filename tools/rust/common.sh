@@ -52,7 +52,7 @@ take_library() {
         [ -f "$WIRAMBOLO_LIB/libwirambolo_c.a" ] || fail "no libwirambolo_c.a in $WIRAMBOLO_LIB, which WIRAMBOLO_LIB names"
         WIRAMBOLO_LIB=$(cd "$WIRAMBOLO_LIB" && pwd)
     else
-        (cd "$root" && rt staticlib wirambolo_c >&2)
+        "$root/tools/build" wirambolo_c >&2
         WIRAMBOLO_LIB="$root/target/staticlib"
     fi
     export WIRAMBOLO_LIB
@@ -67,7 +67,7 @@ take_key() {
         esac
         { [ -f "$KEY" ] && [ -x "$KEY" ]; } || fail "$KEY, which KEY names, is no program"
     else
-        (cd "$root" && rt check key >&2)
+        "$root/tools/build" key >&2
         KEY="$root/target/bin/key"
     fi
     export KEY

@@ -19,7 +19,7 @@
 //! # Building
 //!
 //! `build.rs` looks for `libwirambolo_c.a` in the folder that the environment variable `WIRAMBOLO_LIB` names, by default in
-//! `target/staticlib` of the repository, where `rt staticlib wirambolo_c` puts it.
+//! `target/staticlib` of the repository, where `tools/build wirambolo_c` puts it.
 //!
 //! # Layouts
 //!
