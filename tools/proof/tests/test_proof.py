@@ -1,4 +1,4 @@
-"""The two proof tools on small texts, as the checker of the kit writes them. No crate is proved.
+"""The two proof tools on small texts, as the check of the kit writes them. No crate is proved.
 
     cd tools/proof/tests && python3 -m unittest
 """
@@ -24,108 +24,143 @@ def loaded(name):
 
 scaffold, places = loaded("scaffold"), loaded("places")
 
-SAID = """fn tiny::count: no proof: expected `count-spec` in ./crates/tiny/proofs/count/Proof.antt
-help: write ./crates/tiny/proofs/count/Proof.antt with these lines, and check again: each hole asks for a measure
-    use Rattle·tiny·proofs.proofs.count.Tie as tie
-    
-    abbrev Inv-loop : tie.InvT-loop
-    Inv-loop s x n₀ i₀ n i = ?
-    
-    -- src/lib.rt:12:12
-    add-n : tie.Need-add-n Inv-loop μ-loop
-    add-n c = ?
-    
-    returns : tie.Need-returns Inv-loop μ-loop
-    returns c = search needs
-library std: modules loaded=0 checked=0
-logic=not-proved
+INVARIANTS = """use Rattle.std.proofs.Common.{◌≡◌, length}
+use Rattle.tiny.proofs.count.Given as goal
+
+abbrev pub invariant-loop-i : goal.invariant-loop-i
+invariant-loop-i l = ?
 """
 
-GENERATED = """
+ANSWERS = """use Rattle.std.proofs.Common.{rules, ◌≡◌, length}
+use Rattle.tiny.proofs.count.Goals as goal
+
+-- src/lib.rt:12:12
+pub loop-i-preserved : goal.loop-i-preserved
+loop-i-preserved c = ?
+
+pub returns : goal.returns
+returns c = ?
+"""
+
+LTS = """
         pub record Args : Type 0 where
           pub s : Shared
           pub n : ℕ
 
-      pub record Start : Type 0 where
-        pub args : Args
-        pub pre : Pre args
+        pub record Start : Type 0 where
+          pub args : Args lifetimes
+          pub requires : the-Pre lifetimes
 
-      module _ (before· : Start) where
-        pub record At-loop·own : Type 0 where
-          pub i : ℕ
-          pub inv : Inv·0 i
+        module _ (the-before : Start) where
+          pub record Step-At-loop : Type 0 where
+            pub i : (Rows.sc_here (Row.s_int Syntax.w64)).Mod
+            pub invariant : the-Inv-0
+                (Row.get
+                1
+                T3.locals)
 
-      pub record At-loop : Type 0 where
-        pub before : Start
-        pub loop : At-loop·own before
+        pub record At-loop : Type 0 where
+          pub before : Start
 
-      module _ (before· : At-loop) where
-        abbrev pub After-f·own : Type 0
-        After-f·own = Called.Called ps·0 r·0 (claims· .1) T3 (
+          pub loop-i : Step-At-loop before
 
-      pub record After-f : Type 0 where
-        pub before : At-loop
-        pub f : After-f·own before
+        pub record In-loop : Type 0 where
+          pub before : At-loop
+"""
 
-      abbrev pub Need-loop-again : Type 0
-      Need-loop-again =
-          (c : After-f) →
-          Inv·0
+GOALS = """abbrev pub In-loop-i : Type 0
+In-loop-i = Lts.In-loop Reads.Pre Reads.Post the-invariant-loop-i
 
-      abbrev pub Need-loop-holds : Type 0
-      Need-loop-holds =
-          (c : Start) → Inv·0
+abbrev pub loop-i-preserved : Type 0
+loop-i-preserved =
+    Past.At
+    In-loop-i
+    (View.Named-loop-i-preserved Reads.Pre)
+    Path'.refl
+
+abbrev pub Start : Type 0
+Start = Lts.Start Reads.Pre Reads.Post
+
+abbrev pub returns : Type 0
+returns =
+    Past.At
+    Start
+    (View.Named-returns Reads.Pre)
+    Path'.refl
 """
 
 
+def written(room):
+    """A folder as the check writes it."""
+    folder = Path(room) / "generated/Rattle-tiny-proofs/count"
+    folder.mkdir(parents=True)
+    for name, text in (("InvariantsOffered", INVARIANTS), ("AnswersOffered", ANSWERS), ("Lts", LTS), ("Goals", GOALS)):
+        (folder / f"{name}.antt").write_text(text)
+    (Path(room) / "crates/tiny").mkdir(parents=True)
+    return str(folder.parent.parent)
+
+
 class Scaffold(unittest.TestCase):
-    def test_lines_lose_their_indent(self):
-        body = scaffold.asked_for(SAID)["count"]
-        self.assertTrue(body.startswith("use Rattle·tiny"))
-        self.assertTrue(body.endswith("\nreturns c = search needs\n"))
-        self.assertNotIn("library std", body)
+    def test_every_goal_gets_the_answer(self):
+        body = scaffold.answered(ANSWERS, "search rules")
+        self.assertIn("loop-i-preserved c = search rules\n", body)
+        self.assertTrue(body.endswith("\nreturns c = search rules\n"))
+        self.assertTrue(body.startswith("use Rattle.std.proofs.Common.{rules, ◌≡◌"))
+
+    def test_what_the_answer_names_is_imported(self):
+        self.assertTrue(scaffold.answered(ANSWERS, "omega arith").startswith("use Rattle.std.proofs.Common.{arith}\nuse "))
+
+    def test_files_are_written_once(self):
+        with tempfile.TemporaryDirectory() as room:
+            folder = written(room)
+            command = [sys.executable, "-B", str(HERE / "scaffold"), "--root", room, "--generated", folder, "tiny"]
+            first = subprocess.run(command + ["count"], capture_output=True, text=True)
+            holes = "crates/tiny/proofs/count/Invariants.antt: 1 holes\ncrates/tiny/proofs/count/Answers.antt: 2 holes\n"
+            self.assertEqual((first.returncode, first.stdout), (0, holes))
+            self.assertEqual((Path(room) / "crates/tiny/proofs/count/Answers.antt").read_text(), ANSWERS)
+            again = subprocess.run(command + ["count", "--answer", "omega arith"], capture_output=True, text=True)
+            stays = "crates/tiny/proofs/count/Invariants.antt is there, and stays\ncrates/tiny/proofs/count/Answers.antt is there, and stays\n"
+            self.assertEqual((again.returncode, again.stdout), (0, stays))
+            self.assertEqual((Path(room) / "crates/tiny/proofs/count/Answers.antt").read_text(), ANSWERS)
+            other = subprocess.run(command + ["other"], capture_output=True, text=True)
+            self.assertEqual(other.returncode, 1)
+            self.assertIn("nothing is offered for other", other.stderr)
 
     def test_invariants_keep_their_holes(self):
-        body = scaffold.answered(scaffold.asked_for(SAID)["count"], "omega arith")
-        self.assertIn("Inv-loop s x n₀ i₀ n i = ?", body)
-        self.assertIn("add-n c = omega arith", body)
-        self.assertTrue(body.startswith("use native.Mathlib.Omega.{arith}\nuse borrow.Author.Needs.{needs}\n"))
-
-    def test_a_file_is_written_once(self):
         with tempfile.TemporaryDirectory() as room:
-            (Path(room) / "crates/tiny").mkdir(parents=True)
-            said = Path(room) / "said.txt"
-            said.write_text(SAID)
-            command = [sys.executable, "-B", str(HERE / "scaffold"), "--root", room, "--said", str(said), "tiny"]
-            first = subprocess.run(command + ["count"], capture_output=True, text=True)
-            self.assertEqual((first.returncode, first.stdout), (0, "crates/tiny/proofs/count/Proof.antt: 2 holes left\n"))
-            again = subprocess.run(command + ["count"], capture_output=True, text=True)
-            self.assertEqual((again.returncode, again.stderr), (1, "crates/tiny/proofs/count/Proof.antt is there: move it aside first\n"))
-            other = subprocess.run(command + ["other"], capture_output=True, text=True)
-            self.assertEqual((other.returncode, other.stderr), (1, "rt dev tiny prints no lines for other, but for: count\n"))
+            command = [sys.executable, "-B", str(HERE / "scaffold"), "--root", room, "--generated", written(room), "--print", "--answer", "cc", "tiny", "count"]
+            shown = subprocess.run(command, capture_output=True, text=True).stdout
+            self.assertIn("invariant-loop-i l = ?", shown)
+            self.assertIn("returns c = cc", shown)
 
 
 class Places(unittest.TestCase):
     def test_paths(self):
         self.assertEqual(
-            list(places.paths(GENERATED, [])),
+            list(places.lines_of(LTS, GOALS, [])),
             [
-                "Need-loop-again",
-                "   c  .f {result, last, ensures}",
-                "   c .before  .loop {i, inv}",
-                "   c .before .before  .args {s, n}, .pre",
-                "Need-loop-holds",
-                "   c  .args {s, n}, .pre",
+                "loop-i-preserved",
+                "   c.loop-i: .i, .invariant",
+                "   c.args: .s, .n",
+                "   c.requires",
+                "returns",
+                "   c.args: .s, .n",
+                "   c.requires",
             ],
         )
 
-    def test_one_need(self):
-        self.assertEqual(list(places.paths(GENERATED, ["Need-loop-holds"])), ["Need-loop-holds", "   c  .args {s, n}, .pre"])
+    def test_one_goal(self):
+        self.assertEqual(list(places.lines_of(LTS, GOALS, ["returns"])), ["returns", "   c.args: .s, .n", "   c.requires"])
 
-    def test_an_unknown_need(self):
+    def test_an_unknown_goal(self):
         with self.assertRaises(SystemExit) as told:
-            list(places.paths(GENERATED, ["Need-returns"]))
-        self.assertEqual(str(told.exception), "no need Need-returns; there are: Need-loop-again, Need-loop-holds")
+            list(places.lines_of(LTS, GOALS, ["returns-2"]))
+        self.assertEqual(str(told.exception), "no goal returns-2; there are: loop-i-preserved, returns")
+
+    def test_the_program(self):
+        with tempfile.TemporaryDirectory() as room:
+            command = [sys.executable, "-B", str(HERE / "places"), "--root", room, "--generated", written(room), "tiny", "count", "returns"]
+            self.assertEqual(subprocess.run(command, capture_output=True, text=True).stdout, "returns\n   c.args: .s, .n\n   c.requires\n")
 
 
 if __name__ == "__main__":
