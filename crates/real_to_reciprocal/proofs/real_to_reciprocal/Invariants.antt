@@ -1,13 +1,6 @@
 -- All blocks: each loop has stored the box of what it came past, in terms of the factors as they were when it began, which lie below the region.
-use mathlib.Core.Path.{◌≡◌, sym, ◌∙◌}
-use Prim.Native.Nat.{ℕ, ◌+◌, ◌*◌, ◌-◌, ◌≤◌}
-use lib.ListN.{length-replicate}
+use Prim.Native.Nat.{◌+◌, ◌*◌, ◌-◌, ◌≤◌}
 use Rattle.real_to_reciprocal.specs.Stored.{Box, Stored, factors_in, component_at}
-use Rattle.planes.proofs.RegionLaws.{outside_then}
-use Rattle.real_to_reciprocal.proofs.StoredLaws.{stored_none}
-use Rattle.real_to_reciprocal.proofs.FactorLaws.{Below}
-use Rattle.real_to_reciprocal.proofs.ReciprocalLaws.{turn_k, turn_j, turn_i, all_stored}
-use native.Mathlib.Omega.{arith}
 use Rattle.real_to_reciprocal.proofs.real_to_reciprocal.Given as goal
 
 abbrev pub invariant-loop-k : goal.invariant-loop-k

@@ -1,10 +1,10 @@
 -- The mean of three legs: after q turns q runs of three numbers, the other legs' by the definition's exchange of indices.
-use mathlib.Core.Path.{◌≡◌, refl, ap, ◌∙◌}
-use Prim.Native.Nat.{◌+◌, ◌*◌, ◌-◌, ◌≤◌}
-use Rattle.planes.specs.Split.{split, WroteSplit}
-use Rattle.planes.proofs.SplitLaws.{split_none, split_next}
+use mathlib.Core.Path.{◌≡◌, refl, ap}
+use Prim.Native.Nat.{◌+◌, ◌*◌}
+use Rattle.planes.specs.Split.{split}
+use Rattle.planes.proofs.SplitLaws.{split_next}
 use Rattle.planes.proofs.RegionLaws.{split_join}
-use Rattle.real_to_reciprocal.proofs.BlockLaws.{mean_at, mean_of}
+use Rattle.real_to_reciprocal.proofs.BlockLaws.{mean_of}
 use native.Mathlib.Omega.{arith}
 use Rattle.real_to_reciprocal.proofs.blocks.average.Goals as goal
 

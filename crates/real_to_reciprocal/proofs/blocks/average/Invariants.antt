@@ -1,11 +1,7 @@
 -- The mean of three legs: after q turns q runs of three numbers, the other legs' by the definition's exchange of indices.
-use mathlib.Core.Path.{◌≡◌, refl, ap, ◌∙◌}
-use Prim.Native.Nat.{◌+◌, ◌*◌, ◌-◌, ◌≤◌}
-use Rattle.planes.specs.Split.{split, WroteSplit}
-use Rattle.planes.proofs.SplitLaws.{split_none, split_next}
-use Rattle.planes.proofs.RegionLaws.{split_join}
-use Rattle.real_to_reciprocal.proofs.BlockLaws.{mean_at, mean_of}
-use native.Mathlib.Omega.{arith}
+use Prim.Native.Nat.{◌*◌, ◌-◌, ◌≤◌}
+use Rattle.planes.specs.Split.{WroteSplit}
+use Rattle.real_to_reciprocal.proofs.BlockLaws.{mean_at}
 use Rattle.real_to_reciprocal.proofs.blocks.average.Given as goal
 
 abbrev pub invariant-loop-q : goal.invariant-loop-q

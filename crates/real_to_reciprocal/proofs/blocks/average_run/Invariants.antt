@@ -1,13 +1,8 @@
 -- The mean of three numbers of three legs: those below n are written.
-use borrow.Author.Rules.{rules}
-use mathlib.Core.Path.{◌≡◌, ◌∙◌}
 use Rattle.phonon.specs.Common.{czero, cadd}
 use Rattle.phonon.specs.RealToReciprocal.{over3}
-use Rattle.real_to_reciprocal.proofs.BlockLaws.{mean_of, run_next}
 use Prim.Native.Nat.{◌+◌, ◌*◌, ◌-◌, ◌≤◌}
 use Rattle.planes.specs.Split.{split, WroteSplit}
-use Rattle.planes.proofs.SplitLaws.{split_none, split_step}
-use native.Mathlib.Omega.{arith}
 use Rattle.real_to_reciprocal.proofs.blocks.average_run.Given as goal
 
 abbrev pub invariant-loop-n : goal.invariant-loop-n

@@ -1,6 +1,5 @@
 -- The mean of three numbers is the definition's expression.
 use Rattle.phonon.specs.RealToReciprocal.{over3}
-use borrow.Author.Rules.{rules}
 use Rattle.real_to_reciprocal.proofs.blocks.mean.Goals as goal
 
 pub returns : goal.returns

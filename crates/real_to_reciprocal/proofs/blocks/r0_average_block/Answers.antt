@@ -1,6 +1,5 @@
 -- The mean of the three legs' sums times their pre-factors is the definition's element.
 use Rattle.real_to_reciprocal.proofs.BlockLaws.{averaged_of}
-use borrow.Author.Rules.{rules}
 use Rattle.real_to_reciprocal.proofs.blocks.r0_average_block.Goals as goal
 
 pub returns : goal.returns

@@ -1,9 +1,8 @@
 -- The 27 numbers stored: after l turns the box of l components of the first leg.
 use mathlib.Core.Path.{◌≡◌, ap}
-use Prim.Native.Nat.{◌+◌, ◌*◌, ◌%◌, ◌-◌, ◌≤◌}
+use Prim.Native.Nat.{◌+◌, ◌*◌, ◌%◌}
 use Rattle.planes.specs.Split.{split}
-use Rattle.real_to_reciprocal.specs.Stored.{Box, Stored}
-use Rattle.real_to_reciprocal.proofs.StoredLaws.{place_in, stored_none, stored_ext, join0}
+use Rattle.real_to_reciprocal.proofs.StoredLaws.{stored_ext, join0}
 use native.Mathlib.Omega.{arith}
 use Rattle.real_to_reciprocal.proofs.blocks.store_block.Goals as goal
 

@@ -1,10 +1,7 @@
 -- Nine numbers stored: after n turns the box of n components of the third leg.
-use mathlib.Core.Path.{◌≡◌, refl, ap}
 use Prim.Native.Nat.{◌+◌, ◌*◌, ◌%◌, ◌-◌, ◌≤◌}
 use Rattle.planes.specs.Split.{split}
 use Rattle.real_to_reciprocal.specs.Stored.{Box, Stored}
-use Rattle.real_to_reciprocal.proofs.StoredLaws.{PlaceIn, place_in, stored_none, join2, run_stored}
-use native.Mathlib.Omega.{arith}
 use Rattle.real_to_reciprocal.proofs.blocks.store_plane.Given as goal
 
 abbrev pub invariant-loop-n : goal.invariant-loop-n

@@ -1,9 +1,6 @@
 -- Three numbers stored: those below m are written.
-use mathlib.Core.Path.{◌≡◌}
 use Prim.Native.Nat.{◌+◌, ◌*◌, ◌-◌, ◌≤◌}
 use Rattle.planes.specs.Split.{split, WroteSplit}
-use Rattle.planes.proofs.SplitLaws.{split_none, split_step}
-use native.Mathlib.Omega.{arith}
 use Rattle.real_to_reciprocal.proofs.blocks.store_run.Given as goal
 
 abbrev pub invariant-loop-m : goal.invariant-loop-m

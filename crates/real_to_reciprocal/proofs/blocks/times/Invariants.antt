@@ -1,12 +1,7 @@
 -- Every number times another: those below e are written.
-use borrow.Author.Rules.{rules}
 use Rattle.phonon.specs.Common.{cmul}
-use Rattle.real_to_reciprocal.proofs.BlockLaws.{times_of}
-use mathlib.Core.Path.{◌≡◌, ◌∙◌}
 use Prim.Native.Nat.{◌-◌, ◌≤◌}
 use Rattle.planes.specs.Split.{split, WroteSplit}
-use Rattle.planes.proofs.SplitLaws.{split_none, split_step, split_next}
-use native.Mathlib.Omega.{arith}
 use Rattle.real_to_reciprocal.proofs.blocks.times.Given as goal
 
 abbrev pub invariant-loop-e : goal.invariant-loop-e

@@ -1,6 +1,5 @@
 -- The block that waits, added.
 use mathlib.Core.Path.{sym}
-use borrow.Author.Rules.{rules}
 use Rattle.planes.proofs.SplitLaws.{split_same, split_ext}
 use Rattle.real_to_reciprocal.proofs.HeldLaws.{none_waits, one_waits}
 use Rattle.real_to_reciprocal.proofs.elements.add_held.Goals as goal

@@ -1,11 +1,7 @@
 -- The turn of a pair: nothing where it is zero or passed, else its term.
 use mathlib.Core.Path.{sym, ◌∙◌}
-use Prim.Native.Nat.{◌+◌, ◌*◌}
-use native.Mathlib.Nat.{le-mul_of_pos_right}
 use Rattle.real_to_reciprocal.proofs.PairLaws.{pair_zero, pair_passed, pair_added}
 use Rattle.real_to_reciprocal.proofs.HeldLaws.{settled_ext}
-use native.Mathlib.Omega.{arith}
-use borrow.Author.Rules.{rules}
 use Rattle.real_to_reciprocal.proofs.elements.add_pair.Goals as goal
 
 pub returns-then-nonzero-n-eq0 : goal.returns-then-nonzero-n-eq0

@@ -1,13 +1,8 @@
 -- Two blocks of force constants added: the elements below e are written.
-use borrow.Author.Rules.{rules}
-use mathlib.Core.Path.{◌≡◌, ◌∙◌}
 use Prim.Native.Nat.{◌+◌, ◌-◌, ◌≤◌}
 use Rattle.phonon.specs.Number.{at}
 use Rattle.phonon.specs.Common.{cadd, scale}
 use Rattle.planes.specs.Split.{split, WroteSplit}
-use Rattle.planes.proofs.SplitLaws.{split_none, split_step, split_next}
-use Rattle.real_to_reciprocal.proofs.PairLaws.{add_of}
-use native.Mathlib.Omega.{arith}
 use Rattle.real_to_reciprocal.proofs.elements.add_two.Given as goal
 
 abbrev pub invariant-loop-e : goal.invariant-loop-e

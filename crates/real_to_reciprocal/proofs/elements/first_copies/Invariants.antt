@@ -1,11 +1,9 @@
 -- The first copies: after a turns those of a atoms.
-use mathlib.Core.Path.{◌≡◌, refl}
+use mathlib.Core.Path.{◌≡◌}
 use Prim.Native.Nat.{ℕ, ◌-◌, ◌<◌, ◌≤◌}
-use lib.ListN.{length, get_or, length-set}
+use lib.ListN.{length, get_or}
 use Rattle.phonon.specs.Number.{index, int}
 use Rattle.real_to_reciprocal.specs.Copies.{FirstCopy}
-use Rattle.real_to_reciprocal.proofs.CopyLaws.{copies_more}
-use native.Mathlib.Omega.{arith}
 use Rattle.real_to_reciprocal.proofs.elements.first_copies.Given as goal
 
 abbrev pub invariant-loop-a : goal.invariant-loop-a

@@ -1,16 +1,11 @@
 -- The sums over pairs: the outer loop has the turns of all j that it came past, the inner one also those of k, from copy to copy.
-use borrow.Author.Rules.{rules}
-use mathlib.Core.Path.{◌≡◌, sym, ◌∙◌}
-use Prim.Native.Nat.{◌-◌, ◌<◌, ◌≤◌}
-use Rattle.phonon.specs.Number.{index, int}
+use mathlib.Core.Path.{◌≡◌, ◌∙◌}
 use Rattle.phonon.proofs.Laws.{pair_lt}
-use Rattle.planes.specs.Split.{split}
 use Rattle.planes.proofs.ColsLaws.{cols_ext}
-use Rattle.real_to_reciprocal.specs.Pair.{Settled}
 use Rattle.real_to_reciprocal.proofs.CopyLaws.{copy_at}
 use Rattle.real_to_reciprocal.proofs.ShapeLaws.{pair_in}
 use Rattle.real_to_reciprocal.proofs.HeldLaws.{settled_cols}
-use Rattle.real_to_reciprocal.proofs.ElementLaws.{j_turns, turns, k_start, k_turn, j_start, j_turn, element_by}
+use Rattle.real_to_reciprocal.proofs.ElementLaws.{k_start, k_turn, j_start, j_turn, element_by}
 use native.Mathlib.Omega.{arith}
 use Rattle.real_to_reciprocal.proofs.elements.real_to_reciprocal_elements.Goals as goal
 

@@ -1,6 +1,5 @@
 -- One block more: two are added, or one waits, or one is added.
 use mathlib.Core.Path.{refl, sym}
-use borrow.Author.Rules.{rules}
 use native.Mathlib.Omega.{arith}
 use Rattle.planes.proofs.SplitLaws.{split_ext}
 use Rattle.real_to_reciprocal.proofs.PairLaws.{add_of}

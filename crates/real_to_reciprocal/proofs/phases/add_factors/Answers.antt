@@ -2,7 +2,6 @@
 use mathlib.Core.Path.{refl}
 use Rattle.phonon.specs.Common.{cadd}
 use Rattle.phonon.specs.RealToReciprocal.{cis}
-use borrow.Author.Rules.{rules}
 use Rattle.real_to_reciprocal.proofs.phases.add_factors.Goals as goal
 
 pub returns : goal.returns

@@ -1,6 +1,5 @@
 -- The cosine and the sine, as `sin_cos` gives them.
 use Rattle.phonon.specs.RealToReciprocal.{cis}
-use borrow.Author.Rules.{rules}
 use Rattle.real_to_reciprocal.proofs.phases.cis.Goals as goal
 
 pub returns : goal.returns

@@ -1,8 +1,6 @@
 -- The means over the vectors of a range: after i turns the sums over i vectors.
-use borrow.Author.Rules.{rules}
 use mathlib.Core.Path.{◌≡◌, refl}
-use Prim.Native.Nat.{◌-◌, ◌≤◌}
-use Rattle.real_to_reciprocal.proofs.PhaseLaws.{phase_sum, sum_none, sum_turn, mean_of}
+use Rattle.real_to_reciprocal.proofs.PhaseLaws.{sum_none, sum_turn, mean_of}
 use native.Mathlib.Omega.{arith}
 use Rattle.real_to_reciprocal.proofs.phases.get_phase_factors.Goals as goal
 

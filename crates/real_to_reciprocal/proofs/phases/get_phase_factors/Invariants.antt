@@ -1,9 +1,7 @@
 -- The means over the vectors of a range: after i turns the sums over i vectors.
-use borrow.Author.Rules.{rules}
-use mathlib.Core.Path.{◌≡◌, refl}
+use mathlib.Core.Path.{◌≡◌}
 use Prim.Native.Nat.{◌-◌, ◌≤◌}
-use Rattle.real_to_reciprocal.proofs.PhaseLaws.{phase_sum, sum_none, sum_turn, mean_of}
-use native.Mathlib.Omega.{arith}
+use Rattle.real_to_reciprocal.proofs.PhaseLaws.{phase_sum}
 use Rattle.real_to_reciprocal.proofs.phases.get_phase_factors.Given as goal
 
 abbrev pub invariant-loop-i : goal.invariant-loop-i

@@ -1,10 +1,6 @@
 -- The pre-factor of an atom: its entry, the first vector of that, and the phase there.
-use mathlib.Core.Path.{◌≡◌, ap}
-use Prim.Native.Nat.{ℕ, ◌*◌}
-use Rattle.phonon.specs.Number.{index, int}
 use Rattle.real_to_reciprocal.proofs.PhaseLaws.{anchor_at, pre_factor_at}
 use native.Mathlib.Omega.{arith}
-use borrow.Author.Rules.{rules}
 use Rattle.real_to_reciprocal.proofs.phases.get_pre_phase_factor.Goals as goal
 
 pub pre_phase-requires : goal.pre_phase-requires

@@ -1,7 +1,6 @@
 -- The phase of a vector is the definition's expression.
 use mathlib.Core.Path.{refl}
 use Rattle.phonon.specs.RealToReciprocal.{phase}
-use borrow.Author.Rules.{rules}
 use Rattle.real_to_reciprocal.proofs.phases.phase.Goals as goal
 
 pub returns : goal.returns

@@ -1,13 +1,8 @@
 -- The phase factors of the three legs: after i turns those of i atoms, row behind row.
-use mathlib.Core.Path.{◌≡◌}
 use Prim.Native.Nat.{◌*◌, ◌-◌, ◌≤◌}
-use native.Mathlib.Nat.{zero-mul}
 use Rattle.phonon.specs.Interaction.{leg}
 use Rattle.phonon.specs.RealToReciprocal.{phase_factor_entry}
-use Rattle.planes.proofs.Products.{row_next}
 use Rattle.real_to_reciprocal.specs.Three.{WroteThree}
-use Rattle.real_to_reciprocal.proofs.ThreeLaws.{three_none, three_join}
-use native.Mathlib.Omega.{arith}
 use Rattle.real_to_reciprocal.proofs.phases.phase_factors.Given as goal
 
 abbrev pub invariant-loop-i : goal.invariant-loop-i

@@ -3,8 +3,7 @@ use mathlib.Core.List.{List}
 use lib.Ieee.{Float}
 use Rattle.phonon.specs.Sets.{Legs}
 use mathlib.Core.Path.{◌≡◌}
-use Prim.Native.Nat.{◌-◌, ◌≤◌}
-use Rattle.real_to_reciprocal.proofs.PhaseLaws.{pre_sum, pre_none, pre_turn, pre_of}
+use Rattle.real_to_reciprocal.proofs.PhaseLaws.{pre_none, pre_turn, pre_of}
 use native.Mathlib.Omega.{arith}
 use Rattle.real_to_reciprocal.proofs.phases.pre_phase.Goals as goal
 

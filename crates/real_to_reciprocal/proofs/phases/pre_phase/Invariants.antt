@@ -1,11 +1,7 @@
 -- The phase at the sum of the three q: after j turns the sum over j components.
-use mathlib.Core.List.{List}
-use lib.Ieee.{Float}
-use Rattle.phonon.specs.Sets.{Legs}
 use mathlib.Core.Path.{◌≡◌}
 use Prim.Native.Nat.{◌-◌, ◌≤◌}
-use Rattle.real_to_reciprocal.proofs.PhaseLaws.{pre_sum, pre_none, pre_turn, pre_of}
-use native.Mathlib.Omega.{arith}
+use Rattle.real_to_reciprocal.proofs.PhaseLaws.{pre_sum}
 use Rattle.real_to_reciprocal.proofs.phases.pre_phase.Given as goal
 
 abbrev pub invariant-loop-j : goal.invariant-loop-j

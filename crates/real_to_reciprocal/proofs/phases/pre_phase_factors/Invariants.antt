@@ -1,13 +1,7 @@
 -- The pre-factors: after i turns those of i atoms.
-use mathlib.Core.Path.{◌≡◌}
-use Prim.Native.Nat.{◌-◌, ◌<◌, ◌≤◌}
-use lib.ListN.{length}
+use Prim.Native.Nat.{◌-◌, ◌≤◌}
 use Rattle.phonon.specs.RealToReciprocal.{pre_factor_entry}
 use Rattle.planes.specs.Split.{WroteSplit}
-use Rattle.planes.proofs.SplitLaws.{split_none, split_step}
-use Rattle.phonon.proofs.Accepted.{index_below}
-use Rattle.real_to_reciprocal.proofs.PhaseLaws.{anchor_in}
-use native.Mathlib.Omega.{arith}
 use Rattle.real_to_reciprocal.proofs.phases.pre_phase_factors.Given as goal
 
 abbrev pub invariant-loop-i : goal.invariant-loop-i
