@@ -1,0 +1,16 @@
+-- A table that is filled entry by entry.
+use mathlib.Core.Path.{refl}
+use Rattle.planes.proofs.FilledLaws.{filled_none, filled_more, filled_whole}
+use Rattle.carton.specs.Words.{floats_of}
+use native.Mathlib.Omega.{arith}
+use Rattle.carton.proofs.words.read_floats.Goals as goal
+
+pub loop-i-init : goal.loop-i-init
+loop-i-init c = (refl, filled_none c.requires)
+
+pub loop-i-preserved : goal.loop-i-preserved
+loop-i-preserved c = let d = c.loop-i.invariant in (d.0, filled_more (omega arith) c.f64_of_bits.ensures d.1)
+
+pub returns : goal.returns
+unfolding floats_of
+returns c = filled_whole (omega arith) c.loop-i.invariant.1

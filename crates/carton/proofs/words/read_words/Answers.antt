@@ -1,0 +1,15 @@
+-- A table that is filled entry by entry.
+use Rattle.planes.proofs.FilledLaws.{filled_none, filled_more, filled_whole}
+use Rattle.carton.specs.Words.{words_of}
+use native.Mathlib.Omega.{arith}
+use Rattle.carton.proofs.words.read_words.Goals as goal
+
+pub loop-i-init : goal.loop-i-init
+loop-i-init c = let e = c.requires in (e, filled_none e)
+
+pub loop-i-preserved : goal.loop-i-preserved
+loop-i-preserved c = let d = c.loop-i.invariant in (d.0, filled_more (omega arith) c.word_at.ensures d.1)
+
+pub returns : goal.returns
+unfolding words_of
+returns c = filled_whole (omega arith) c.loop-i.invariant.1
