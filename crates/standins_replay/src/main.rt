@@ -8,7 +8,7 @@
 ghost use Rattle.std.specs.Prelude.{◌≡◌, ◌+◌, ◌<◌, ◌≤◌, length};
 
 use common::bits::{bits_of, f64_of_bits};
-use libc::{STDIN_FILENO, STDOUT_FILENO};
+use std::io::Read;
 
 // Room for the list.
 fn input_buffer() -> [u8; 98304]
@@ -187,25 +187,36 @@ fn counted(list: &[u8]) -> [u64; 12]
     counts
 }
 
-// Writes a function's line.
-fn print_count(name: &[u8], agree: u64, differ: u64) {
-    io::write_all(STDOUT_FILENO, name);
-    io::print_decimal(STDOUT_FILENO, std::num::wrapping_add_u64(agree, differ));
-    io::write_all(STDOUT_FILENO, b" differ ");
-    io::print_decimal(STDOUT_FILENO, differ);
-    io::write_all(STDOUT_FILENO, b"\n");
+// Reads until buf is full, the input ends or a read fails, and returns how many bytes it put at the start of buf.
+fn read_full<R: Read>(input: &mut R, buf: &mut [u8]) -> usize
+    ensures { result ≤ length buf.new }
+{
+    let mut done = 0usize;
+    while done < buf.len() {
+        let n = input.read(&mut buf[done..]).unwrap_or(0);
+        if n == 0 {
+            break;
+        }
+        done += n;
+    }
+    done
 }
 
-fn main() {
+// Writes a function's line.
+fn print_count(rt: &impl Print, name: &str, agree: u64, differ: u64) {
+    let all = std::num::wrapping_add_u64(agree, differ);
+    let _ = println!(rt; "{name} {all} differ {differ}");
+}
+
+fn main(rt: HostRuntime) {
     let mut input = input_buffer();
-    let n = io::read_full(STDIN_FILENO, &mut input);
+    let n = read_full(&mut rt.stdin(), &mut input);
     let counts = counted(&input[..n]);
-    print_count(b"root ", counts[0], counts[1]);
-    print_count(b"exp ", counts[2], counts[3]);
-    print_count(b"sin ", counts[4], counts[5]);
-    print_count(b"cos ", counts[6], counts[7]);
-    print_count(b"bose_einstein ", counts[8], counts[9]);
-    io::write_all(STDOUT_FILENO, b"malformed ");
-    io::print_decimal(STDOUT_FILENO, counts[MALFORMED]);
-    io::write_all(STDOUT_FILENO, b"\n");
+    print_count(&rt, "root", counts[0], counts[1]);
+    print_count(&rt, "exp", counts[2], counts[3]);
+    print_count(&rt, "sin", counts[4], counts[5]);
+    print_count(&rt, "cos", counts[6], counts[7]);
+    print_count(&rt, "bose_einstein", counts[8], counts[9]);
+    let malformed = counts[MALFORMED];
+    let _ = println!(rt; "malformed {malformed}");
 }

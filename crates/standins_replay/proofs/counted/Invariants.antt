@@ -1,5 +1,5 @@
 -- Each turn ends its line behind its start, so that what is left of the list grows less; every kind is below 12.
-use Rattle.std.proofs.Common.{◌≡◌, ◌-◌, ◌≤◌, length, rules}
+use Rattle.std.proofs.Common.{◌≡◌, ◌-◌, ◌≤◌, length}
 use Rattle.standins_replay.proofs.counted.Given as goal
 
 abbrev pub invariant-loop-at : goal.invariant-loop-at

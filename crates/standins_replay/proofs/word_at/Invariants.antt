@@ -1,5 +1,5 @@
 -- Sixteen turns; without its highest digit, sixteen times a word and a digit more is a word again.
-use Rattle.std.proofs.Common.{◌-◌, ◌≤◌, arith, rules}
+use Rattle.std.proofs.Common.{◌-◌, ◌≤◌}
 use Rattle.standins_replay.proofs.word_at.Given as goal
 
 abbrev pub invariant-loop-i : goal.invariant-loop-i
