@@ -17,7 +17,7 @@ loop-j-preserved c =
     let j = c.loop-j.j in
     let inv = c.loop-j.invariant.1 in
     let pj = c.loop-j-test.true in
-    let pk = c.requires.0.2 in (
+    let pk = c.requires.sizes.2 in (
       omega (arith, pj),
       column_step _ _ _ a.nb a.b a.k j pj pk inv
           (visited_ext (rw inv.size at c.gather_slot.ensures)

@@ -15,7 +15,7 @@ loop-k-preserved c =
     let inv = c.loop-k.invariant.1 in
     let pk = c.loop-k-test.true in (
       omega (arith, pk),
-      plane_step _ _ _ a.nb a.b c.loop-k.k (omega (arith, c.requires.0.1)) inv
+      plane_step _ _ _ a.nb a.b c.loop-k.k (omega (arith, c.requires.sizes.1)) inv
           (visited_ext (rw inv.size at c.gather_column.ensures)
           (λ m q d. ap (λ o. gathered a.w.now a.to a.nb a.order (λ i. a.n) o m) (inv.rest m q (λ e. omega (arith, e.1, d.1))))),
     )

@@ -14,4 +14,4 @@ overflow_add-result-2 c =
 pub returns : goal.returns
 returns c =
     let p = c.requires in
-    (refl, place_lt p.4 p.5 p.6 c.args.t1 p.1 p.2 p.3)
+    (refl, place_lt p.4 p.5 p.6 c.args.order p.1 p.2 p.3)
