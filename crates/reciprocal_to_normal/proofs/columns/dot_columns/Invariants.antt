@@ -13,6 +13,3 @@ use Rattle.reciprocal_to_normal.proofs.columns.dot_columns.Given as goal
 
 abbrev pub invariant-loop-r : goal.invariant-loop-r
 invariant-loop-r l = (l.r ≤ l.rest) × Cols l.t 6 (λ c. rest_to l.r l.n (column l.w l.mo l.d l.n (l.j + c)) (strided l.w l.vo l.vd l.vs))
-
-abbrev pub decreases-loop-r : goal.decreases-loop-r
-decreases-loop-r l = l.rest - l.r

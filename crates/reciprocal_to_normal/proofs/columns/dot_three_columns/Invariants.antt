@@ -13,6 +13,3 @@ use Rattle.reciprocal_to_normal.proofs.columns.dot_three_columns.Given as goal
 
 abbrev pub invariant-loop-k : goal.invariant-loop-k
 invariant-loop-k l = (l.k ≤ 3) × Cols l.t 3 (λ c. fold l.k czero (term (column l.w l.mo l.d 3 c) (strided l.w l.vo l.vd l.vs)))
-
-abbrev pub decreases-loop-k : goal.decreases-loop-k
-decreases-loop-k l = 3 - l.k

@@ -11,6 +11,3 @@ use Rattle.reciprocal_to_normal.proofs.columns.join_columns.Given as goal
 
 abbrev pub invariant-loop-c : goal.invariant-loop-c
 invariant-loop-c l = (l.c ≤ 12) × Wrote l.initial.t l.t 0 l.c (λ k. at l.a k ⊕ at l.b k)
-
-abbrev pub decreases-loop-c : goal.decreases-loop-c
-decreases-loop-c l = 12 - l.c

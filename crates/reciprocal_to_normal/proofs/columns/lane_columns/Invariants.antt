@@ -13,6 +13,3 @@ use Rattle.reciprocal_to_normal.proofs.columns.lane_columns.Given as goal
 
 abbrev pub invariant-loop-i : goal.invariant-loop-i
 invariant-loop-i l = (l.i ≤ l.q) × Cols l.t 6 (λ c. lane_to l.i (column l.w l.mo l.d l.n (l.j + c)) (strided l.w l.vo l.vd l.vs) l.p)
-
-abbrev pub decreases-loop-i : goal.decreases-loop-i
-decreases-loop-i l = l.q - l.i

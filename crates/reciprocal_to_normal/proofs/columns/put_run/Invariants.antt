@@ -9,6 +9,3 @@ use Rattle.reciprocal_to_normal.proofs.columns.put_run.Given as goal
 
 abbrev pub invariant-loop-c : goal.invariant-loop-c
 invariant-loop-c l = (l.c ≤ l.m) × Wrote l.initial.w l.w l.to l.c (λ k. at l.t (l.from + k))
-
-abbrev pub decreases-loop-c : goal.decreases-loop-c
-decreases-loop-c l = l.m - l.c

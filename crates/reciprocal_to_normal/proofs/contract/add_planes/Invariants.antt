@@ -10,6 +10,3 @@ use Rattle.reciprocal_to_normal.proofs.contract.add_planes.Given as goal
 
 abbrev pub invariant-loop-x : goal.invariant-loop-x
 invariant-loop-x l = (l.x ≤ l.d) × WroteSplit l.initial.w l.w l.off l.d l.x (λ k. cadd (split l.initial.w l.off l.d k) (cmul (split l.initial.w l.fo l.d k) l.e))
-
-abbrev pub decreases-loop-x : goal.decreases-loop-x
-decreases-loop-x l = l.d - l.x

@@ -11,6 +11,3 @@ use Rattle.reciprocal_to_normal.proofs.gather.gather_plane.Given as goal
 
 abbrev pub invariant-loop-k : goal.invariant-loop-k
 invariant-loop-k l = (l.k ≤ l.nb) × Visited l.initial.out l.out (flagged l.flags) (λ m. gathered l.w l.to l.nb l.order (λ i. l.n) (at l.initial.out m) m) (length l.initial.out) (InPlane l.nb l.b l.k)
-
-abbrev pub decreases-loop-k : goal.decreases-loop-k
-decreases-loop-k l = l.nb - l.k

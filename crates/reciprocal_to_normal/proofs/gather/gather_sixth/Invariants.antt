@@ -16,6 +16,3 @@ abbrev pub invariant-loop-b : goal.invariant-loop-b
 invariant-loop-b l =
     (l.b ≤ length l.bands)
     × Visited l.initial.out l.out (flagged l.flags) (λ m. gathered l.w l.to (3 * l.np) l.order (λ i. index (int l.bands i)) (at l.initial.out m) m) (length l.initial.out) (InAll (3 * l.np) l.b)
-
-abbrev pub decreases-loop-b : goal.decreases-loop-b
-decreases-loop-b l = l.b-end - l.b

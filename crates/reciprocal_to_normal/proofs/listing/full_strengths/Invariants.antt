@@ -16,6 +16,3 @@ abbrev pub invariant-loop-b : goal.invariant-loop-b
 invariant-loop-b l =
     (l.b ≤ 3 * l.np) × WroteAbove l.initial.w l.w l.so (l.so + 2 * (3 * l.np * (3 * l.np)) + 2 * (3 * l.np)) l.to (l.b * (3 * l.np * (3 * l.np)))
     (slot_strength l.np l.initial.w l.fo l.e0 l.e1 l.e2 l.freqs0 l.freqs1 l.freqs2 (λ i. i) l.cutoff)
-
-abbrev pub decreases-loop-b : goal.decreases-loop-b
-decreases-loop-b l = l.nb - l.b

@@ -18,6 +18,3 @@ abbrev pub invariant-loop-j : goal.invariant-loop-j
 invariant-loop-j l =
     (l.j ≤ 3 * l.np) × WroteAbove l.initial.w l.w l.ro (l.ro + 2 * (3 * l.np)) l.to (l.j * (3 * l.np))
     (plane_slot (3 * l.np) (split l.initial.w l.mo (3 * l.np * (3 * l.np))) (split l.initial.w l.e1 (3 * l.np * (3 * l.np))) (split l.initial.w l.e2 (3 * l.np * (3 * l.np))) (at l.freqs1) (at l.freqs2) l.x l.cutoff)
-
-abbrev pub decreases-loop-j : goal.decreases-loop-j
-decreases-loop-j l = l.nb - l.j

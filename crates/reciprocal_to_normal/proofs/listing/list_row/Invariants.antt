@@ -16,6 +16,3 @@ abbrev pub invariant-loop-k : goal.invariant-loop-k
 invariant-loop-k l =
     (l.k ≤ 3 * l.np) × WroteAbove l.initial.w l.w l.ro (l.ro + 2 * (3 * l.np)) l.to l.k (λ i. strength_from l.cutoff
     (amplitude_from (3 * l.np) (split l.initial.w l.mo (3 * l.np * (3 * l.np))) (split l.initial.w l.e1 (3 * l.np * (3 * l.np))) (split l.initial.w l.e2 (3 * l.np * (3 * l.np))) l.j i) l.x l.y (at l.freqs2 i))
-
-abbrev pub decreases-loop-k : goal.decreases-loop-k
-decreases-loop-k l = l.nb - l.k

@@ -10,6 +10,3 @@ use Rattle.reciprocal_to_normal.proofs.scale.inverse_roots.Given as goal
 
 abbrev pub invariant-loop-a : goal.invariant-loop-a
 invariant-loop-a l = (l.a ≤ l.np) × Wrote l.initial.w l.w l.io l.a (inverse_root l.masses)
-
-abbrev pub decreases-loop-a : goal.decreases-loop-a
-decreases-loop-a l = l.np - l.a

@@ -16,6 +16,3 @@ use Rattle.reciprocal_to_normal.proofs.slots.fill_column.Given as goal
 
 abbrev pub invariant-loop-j : goal.invariant-loop-j
 invariant-loop-j l = (l.j ≤ l.nb) × Visited l.initial.out l.out (flagged l.flags) (λ n. strength_from l.cutoff (split l.w l.ao l.nb (j_of l.nb n)) l.x (at l.freqs1 (j_of l.nb n)) l.z) (length l.initial.out) (InColumn l.nb l.b l.k l.j)
-
-abbrev pub decreases-loop-j : goal.decreases-loop-j
-decreases-loop-j l = l.nb - l.j

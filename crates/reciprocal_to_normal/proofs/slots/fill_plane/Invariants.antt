@@ -16,6 +16,3 @@ abbrev pub invariant-loop-k : goal.invariant-loop-k
 invariant-loop-k l =
     (l.k ≤ 3 * l.np) × Visited l.initial.out l.out (flagged l.flags) (plane_slot (3 * l.np) (split l.initial.w l.mo (3 * l.np * (3 * l.np))) (split l.initial.w l.e1 (3 * l.np * (3 * l.np))) (split l.initial.w l.e2 (3 * l.np * (3 * l.np))) (at l.freqs1) (at l.freqs2) l.x l.cutoff)
     (length l.initial.out) (InPlane (3 * l.np) l.b l.k) × SameOutside l.initial.w l.w l.ro (l.ro + 4 * (3 * l.np))
-
-abbrev pub decreases-loop-k : goal.decreases-loop-k
-decreases-loop-k l = l.nb - l.k

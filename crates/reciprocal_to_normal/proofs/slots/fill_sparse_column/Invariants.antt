@@ -15,6 +15,3 @@ abbrev pub invariant-loop-j : goal.invariant-loop-j
 invariant-loop-j l =
     (l.j ≤ l.nb)
     × Visited l.initial.out l.out (flagged l.flags) (λ n. strength_from l.cutoff (dot l.nb (split l.w l.ro l.nb) (strided l.w (l.e1 + j_of l.nb n) (l.nb * l.nb) l.nb)) l.x (at l.freqs1 (j_of l.nb n)) l.z) (length l.initial.out) (InColumn l.nb l.b l.k l.j)
-
-abbrev pub decreases-loop-j : goal.decreases-loop-j
-decreases-loop-j l = l.nb - l.j

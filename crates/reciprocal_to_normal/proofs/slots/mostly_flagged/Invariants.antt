@@ -7,6 +7,3 @@ use Rattle.reciprocal_to_normal.proofs.slots.mostly_flagged.Given as goal
 
 abbrev pub invariant-loop-j : goal.invariant-loop-j
 invariant-loop-j l = (l.j ≤ l.nb) × (l.count ≤ l.j)
-
-abbrev pub decreases-loop-j : goal.decreases-loop-j
-decreases-loop-j l = l.nb - l.j

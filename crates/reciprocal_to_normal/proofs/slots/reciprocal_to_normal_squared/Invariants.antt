@@ -19,6 +19,3 @@ invariant-loop-b l =
     (l.b ≤ length l.bands)
     × Visited l.initial.out l.out (flagged l.flags) (slot_strength l.np l.initial.w l.fo l.e0 l.e1 l.e2 l.freqs0 l.freqs1 l.freqs2 (λ i. index (int l.bands i)) l.cutoff) (length l.initial.out) (InAll (3 * l.np) l.b)
     × SameOutside l.initial.w l.w l.so (l.so + 2 * (3 * l.np * (3 * l.np)) + 4 * (3 * l.np))
-
-abbrev pub decreases-loop-b : goal.decreases-loop-b
-decreases-loop-b l = l.b-end - l.b
