@@ -1,12 +1,7 @@
 -- The columns below c are written.
-use mathlib.Core.Path.{◌≡◌}
-use Prim.Native.Nat.{◌-◌, ◌≤◌}
-use borrow.Author.Rules.{rules}
-use Rattle.phonon.specs.Number.{at}
+use Prim.Native.Nat.{◌≤◌}
 use Rattle.phonon.specs.Common.{cadd, cmul}
 use Rattle.planes.specs.Split.{split, WroteSplit}
-use Rattle.planes.proofs.SplitLaws.{split_none, split_step, split_next}
-use native.Mathlib.Omega.{arith}
 use Rattle.reciprocal_to_normal.proofs.columns.add_columns.Given as goal
 
 abbrev pub invariant-loop-c : goal.invariant-loop-c

@@ -3,7 +3,6 @@ use mathlib.Core.Path.{refl, ap}
 use Rattle.phonon.specs.Common.{czero, cadd, cmul}
 use Rattle.planes.specs.Split.{split}
 use Rattle.planes.proofs.ColsLaws.{cols_zero, cols_step}
-use borrow.Author.Rules.{rules}
 use Rattle.reciprocal_to_normal.proofs.columns.begin_columns.Goals as goal
 
 pub returns : goal.returns

@@ -1,12 +1,11 @@
 -- After the join, r turns add r terms of the remainder.
-use mathlib.Core.Path.{◌≡◌, sym}
-use Prim.Native.Nat.{◌+◌, ◌*◌, ◌-◌, ◌/◌, ◌%◌, ◌<◌, ◌≤◌}
+use mathlib.Core.Path.{◌≡◌}
+use Prim.Native.Nat.{◌+◌, ◌*◌, ◌/◌, ◌%◌}
 use Rattle.phonon.specs.Number.{fold}
-use Rattle.planes.specs.Split.{Cols, column, strided}
+use Rattle.planes.specs.Split.{column, strided}
 use Rattle.planes.proofs.SplitLaws.{split_at}
 use Rattle.planes.proofs.ColsLaws.{cols_step, cols_ext}
-use Rattle.planes.proofs.Products.{row_le}
-use Rattle.reciprocal_to_normal.proofs.DotLaws.{rest_to, turn, dot_done}
+use Rattle.reciprocal_to_normal.proofs.DotLaws.{turn, dot_done}
 use Rattle.reciprocal_to_normal.proofs.ColumnLaws.{lanes_join}
 use native.Mathlib.Omega.{arith}
 use Rattle.reciprocal_to_normal.proofs.columns.dot_columns.Goals as goal

@@ -1,8 +1,5 @@
 -- Each row lies in the matrix, each number in the vector; the sums together are the dot products.
-use mathlib.Core.Path.{◌∙◌}
-use native.Mathlib.Omega.{arith}
 use Rattle.reciprocal_to_normal.proofs.ColumnLaws.{six_rows}
-use borrow.Author.Rules.{rules}
 use Rattle.reciprocal_to_normal.proofs.columns.dot_six_columns.Goals as goal
 
 pub returns : goal.returns

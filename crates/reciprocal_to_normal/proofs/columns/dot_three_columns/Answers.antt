@@ -1,13 +1,12 @@
 -- After k turns, sums of k terms.
-use mathlib.Core.Path.{◌≡◌, refl, sym}
-use Prim.Native.Nat.{◌+◌, ◌*◌, ◌-◌, ◌<◌, ◌≤◌}
-use Rattle.phonon.specs.Number.{at, fold}
+use mathlib.Core.Path.{◌≡◌, refl}
+use Prim.Native.Nat.{◌+◌, ◌*◌}
+use Rattle.phonon.specs.Number.{fold}
 use Rattle.phonon.specs.Common.{czero}
-use Rattle.planes.specs.Split.{Cols, column, strided}
+use Rattle.planes.specs.Split.{column, strided}
 use Rattle.planes.proofs.SplitLaws.{split_at}
 use Rattle.planes.proofs.ColsLaws.{cols_zero, cols_step, cols_ext}
-use Rattle.planes.proofs.Products.{row_le}
-use Rattle.reciprocal_to_normal.proofs.DotLaws.{term, turn, dot_three}
+use Rattle.reciprocal_to_normal.proofs.DotLaws.{turn, dot_three}
 use native.Mathlib.Omega.{arith}
 use Rattle.reciprocal_to_normal.proofs.columns.dot_three_columns.Goals as goal
 

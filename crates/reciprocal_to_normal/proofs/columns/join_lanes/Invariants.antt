@@ -1,13 +1,7 @@
 -- The columns below c are joined.
-use mathlib.Core.Path.{◌≡◌, refl, sym}
-use Prim.Native.Nat.{◌-◌, ◌≤◌}
-use borrow.Author.Rules.{rules}
-use Rattle.phonon.specs.Number.{at}
+use Prim.Native.Nat.{◌≤◌}
 use Rattle.phonon.specs.Common.{cadd}
 use Rattle.planes.specs.Split.{split, WroteSplit}
-use Rattle.planes.proofs.SplitLaws.{split_none, split_step}
-use Rattle.reciprocal_to_normal.proofs.ColumnLaws.{cols_of}
-use native.Mathlib.Omega.{arith}
 use Rattle.reciprocal_to_normal.proofs.columns.join_lanes.Given as goal
 
 abbrev pub invariant-loop-c : goal.invariant-loop-c

@@ -1,13 +1,12 @@
 -- After i turns, partial sums of i terms.
-use mathlib.Core.Path.{◌≡◌, refl, sym}
-use Prim.Native.Nat.{◌+◌, ◌*◌, ◌-◌, ◌/◌, ◌<◌, ◌≤◌}
-use Rattle.phonon.specs.Number.{at, fold}
+use mathlib.Core.Path.{◌≡◌, refl}
+use Prim.Native.Nat.{◌+◌, ◌*◌, ◌/◌}
+use Rattle.phonon.specs.Number.{fold}
 use Rattle.phonon.specs.Common.{czero}
-use Rattle.planes.specs.Split.{Cols, column, strided}
+use Rattle.planes.specs.Split.{column, strided}
 use Rattle.planes.proofs.SplitLaws.{split_at}
 use Rattle.planes.proofs.ColsLaws.{cols_zero, cols_step, cols_ext}
-use Rattle.planes.proofs.Products.{row_le}
-use Rattle.reciprocal_to_normal.proofs.DotLaws.{lane_to, turn, lane_done}
+use Rattle.reciprocal_to_normal.proofs.DotLaws.{turn, lane_done}
 use native.Mathlib.Omega.{arith}
 use Rattle.reciprocal_to_normal.proofs.columns.lane_columns.Goals as goal
 

@@ -1,11 +1,8 @@
 -- After p turns, p partial sums.
-use mathlib.Core.Path.{◌≡◌, sym}
-use Prim.Native.Nat.{◌+◌, ◌-◌, ◌≤◌}
+use Prim.Native.Nat.{◌+◌, ◌≤◌}
 use Rattle.phonon.specs.ReciprocalToNormal.{lane}
 use Rattle.planes.specs.Split.{column, strided}
 use Rattle.reciprocal_to_normal.specs.Columns.{Lanes}
-use Rattle.reciprocal_to_normal.proofs.ColumnLaws.{lanes_none, lanes_step}
-use native.Mathlib.Omega.{arith}
 use Rattle.reciprocal_to_normal.proofs.columns.lanes_columns.Given as goal
 
 abbrev pub invariant-loop-p : goal.invariant-loop-p

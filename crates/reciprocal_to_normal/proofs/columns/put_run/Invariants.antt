@@ -1,10 +1,7 @@
 -- The numbers below c are written.
-use mathlib.Core.Path.{◌≡◌, refl}
-use Prim.Native.Nat.{◌+◌, ◌-◌, ◌≤◌}
+use Prim.Native.Nat.{◌+◌, ◌≤◌}
 use Rattle.phonon.specs.Number.{at}
 use Rattle.planes.specs.Region.{Wrote}
-use Rattle.planes.proofs.RegionLaws.{wrote_none, wrote_step}
-use native.Mathlib.Omega.{arith}
 use Rattle.reciprocal_to_normal.proofs.columns.put_run.Given as goal
 
 abbrev pub invariant-loop-c : goal.invariant-loop-c

@@ -1,11 +1,7 @@
 -- The numbers below x are written.
-use native.Mathlib.Omega.{arith}
-use borrow.Author.Rules.{rules}
-use mathlib.Core.Path.{◌≡◌}
-use Prim.Native.Nat.{◌-◌, ◌≤◌}
+use Prim.Native.Nat.{◌≤◌}
 use Rattle.phonon.specs.Common.{cadd, cmul}
 use Rattle.planes.specs.Split.{split, WroteSplit}
-use Rattle.planes.proofs.SplitLaws.{split_none, split_step, split_next, split_below}
 use Rattle.reciprocal_to_normal.proofs.contract.add_planes.Given as goal
 
 abbrev pub invariant-loop-x : goal.invariant-loop-x

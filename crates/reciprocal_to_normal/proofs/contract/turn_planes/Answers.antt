@@ -1,7 +1,6 @@
 -- An entry that is zero leaves the planes as they are, any other adds its product.
 use Rattle.planes.proofs.SplitLaws.{split_same, split_ext}
 use Rattle.reciprocal_to_normal.proofs.ContractLaws.{pass, take_it}
-use borrow.Author.Rules.{rules}
 use Rattle.reciprocal_to_normal.proofs.contract.turn_planes.Goals as goal
 
 pub returns-then-is_zero : goal.returns-then-is_zero

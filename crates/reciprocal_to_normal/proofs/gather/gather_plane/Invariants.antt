@@ -1,12 +1,9 @@
 -- The columns below k have gathered.
-use mathlib.Core.Path.{◌≡◌, ap}
-use Prim.Native.Nat.{◌-◌, ◌≤◌}
+use Prim.Native.Nat.{◌≤◌}
 use lib.ListN.{length}
 use Rattle.phonon.specs.Number.{at, flagged}
 use Rattle.reciprocal_to_normal.specs.Slots.{Visited, InPlane}
 use Rattle.reciprocal_to_normal.specs.Listing.{gathered}
-use Rattle.reciprocal_to_normal.proofs.SlotLaws.{visited_none, visited_ext, plane_step}
-use native.Mathlib.Omega.{arith}
 use Rattle.reciprocal_to_normal.proofs.gather.gather_plane.Given as goal
 
 abbrev pub invariant-loop-k : goal.invariant-loop-k

@@ -1,12 +1,12 @@
 -- The first bands below b have gathered.
 use mathlib.Core.Path.{◌≡◌, ap, ◌∙◌}
-use Prim.Native.Nat.{◌*◌, ◌-◌, ◌≤◌}
+use Prim.Native.Nat.{◌*◌}
 use lib.ListN.{length}
-use Rattle.phonon.specs.Number.{at, index, int, flagged}
+use Rattle.phonon.specs.Number.{index, int}
 use Rattle.phonon.proofs.Accepted.{index_below}
-use Rattle.reciprocal_to_normal.specs.Slots.{Visited, b_of, j_of, k_of, InAll}
+use Rattle.reciprocal_to_normal.specs.Slots.{b_of, j_of, k_of}
 use Rattle.reciprocal_to_normal.specs.Listing.{gathered}
-use Rattle.reciprocal_to_normal.proofs.SlotLaws.{visited_none, visited_ext, visited_table, all_step, b_lt}
+use Rattle.reciprocal_to_normal.proofs.SlotLaws.{visited_ext, visited_table, all_step, b_lt}
 use Rattle.reciprocal_to_normal.proofs.FlagLaws.{plane_le}
 use Rattle.reciprocal_to_normal.proofs.GatherLaws.{band_gathered}
 use native.Mathlib.Omega.{arith}

@@ -2,7 +2,6 @@
 use mathlib.Core.Path.{refl}
 use Rattle.reciprocal_to_normal.proofs.GatherLaws.{pick_lt, place_lt, sums_small}
 use native.Mathlib.Omega.{arith}
-use borrow.Author.Rules.{rules}
 use Rattle.reciprocal_to_normal.proofs.gather.source_place.Goals as goal
 
 pub overflow_add-result-2 : goal.overflow_add-result-2

@@ -1,16 +1,13 @@
 -- After j turns, j rows are written, and what is read stays as it was.
-use mathlib.Core.Path.{◌≡◌, sym, ap, ◌∙◌}
-use Prim.Native.Nat.{◌+◌, ◌*◌, ◌-◌, ◌<◌, ◌≤◌}
-use native.Mathlib.Nat.{add-mul, zero-mul}
+use mathlib.Core.Path.{ap, ◌∙◌}
+use Prim.Native.Nat.{◌+◌, ◌*◌, ◌<◌}
+use native.Mathlib.Nat.{add-mul}
 use Rattle.phonon.specs.Number.{at}
 use Rattle.phonon.specs.ReciprocalToNormal.{strength_from}
 use Rattle.planes.specs.Split.{split}
 use Rattle.planes.proofs.RegionLaws.{split_outside}
-use Rattle.planes.proofs.Products.{row_le}
-use Rattle.reciprocal_to_normal.specs.Slots.{plane_slot}
-use Rattle.reciprocal_to_normal.specs.Listing.{WroteAbove}
 use Rattle.reciprocal_to_normal.proofs.AmplitudeLaws.{amplitude_ext}
-use Rattle.reciprocal_to_normal.proofs.ListingLaws.{above_none, above_append, above_to, outside_above, row_is}
+use Rattle.reciprocal_to_normal.proofs.ListingLaws.{above_append, above_to, outside_above, row_is}
 use native.Mathlib.Omega.{arith}
 use Rattle.reciprocal_to_normal.proofs.listing.list_plane.Goals as goal
 

@@ -1,14 +1,11 @@
 -- After k turns, k numbers are written, and what is read stays as it was.
 use mathlib.Core.Path.{◌≡◌, ap}
-use Prim.Native.Nat.{◌+◌, ◌*◌, ◌-◌, ◌≤◌}
+use Prim.Native.Nat.{◌+◌, ◌*◌}
 use Rattle.phonon.specs.Number.{at}
 use Rattle.phonon.specs.ReciprocalToNormal.{strength_from}
-use Rattle.planes.specs.Split.{split}
 use Rattle.planes.proofs.RegionLaws.{split_outside}
-use Rattle.reciprocal_to_normal.specs.Arrays.{amplitude_from}
-use Rattle.reciprocal_to_normal.specs.Listing.{WroteAbove}
 use Rattle.reciprocal_to_normal.proofs.AmplitudeLaws.{amplitude_ext}
-use Rattle.reciprocal_to_normal.proofs.ListingLaws.{above_none, above_append, outside_above}
+use Rattle.reciprocal_to_normal.proofs.ListingLaws.{above_append, outside_above}
 use native.Mathlib.Omega.{arith}
 use Rattle.reciprocal_to_normal.proofs.listing.list_row.Goals as goal
 

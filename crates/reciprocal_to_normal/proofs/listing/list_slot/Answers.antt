@@ -1,13 +1,11 @@
 -- The row contraction and the dot give the amplitude; the row is scratch.
 use mathlib.Core.Path.{refl, ap, ◌∙◌}
 use Prim.Native.Nat.{◌+◌, ◌*◌}
-use native.Mathlib.Nat.{mul-le-mul}
 use Rattle.phonon.specs.ReciprocalToNormal.{strength_from}
 use Rattle.planes.proofs.RegionLaws.{outside_split}
 use Rattle.reciprocal_to_normal.proofs.AmplitudeLaws.{dot_is}
 use Rattle.reciprocal_to_normal.proofs.ListingLaws.{above_put, above_outside}
 use native.Mathlib.Omega.{arith}
-use borrow.Author.Rules.{rules}
 use Rattle.reciprocal_to_normal.proofs.listing.list_slot.Goals as goal
 
 pub returns : goal.returns

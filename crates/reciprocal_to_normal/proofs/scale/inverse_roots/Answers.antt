@@ -1,10 +1,8 @@
 -- After a turns, a numbers are written.
-use mathlib.Core.Path.{◌≡◌, ap}
-use Prim.Native.Nat.{◌-◌, ◌≤◌}
+use mathlib.Core.Path.{ap}
 use Rattle.phonon.specs.Number.{◌⊘◌, f1}
 use Rattle.phonon.specs.ReciprocalToNormal.{inverse_root}
-use Rattle.planes.specs.Region.{Wrote}
-use Rattle.planes.proofs.RegionLaws.{wrote_none, wrote_step}
+use Rattle.planes.proofs.RegionLaws.{wrote_step}
 use native.Mathlib.Omega.{arith}
 use Rattle.reciprocal_to_normal.proofs.scale.inverse_roots.Goals as goal
 

@@ -1,11 +1,7 @@
 -- After a turns, a numbers are written.
-use mathlib.Core.Path.{◌≡◌, ap}
-use Prim.Native.Nat.{◌-◌, ◌≤◌}
-use Rattle.phonon.specs.Number.{◌⊘◌, f1}
+use Prim.Native.Nat.{◌≤◌}
 use Rattle.phonon.specs.ReciprocalToNormal.{inverse_root}
 use Rattle.planes.specs.Region.{Wrote}
-use Rattle.planes.proofs.RegionLaws.{wrote_none, wrote_step}
-use native.Mathlib.Omega.{arith}
 use Rattle.reciprocal_to_normal.proofs.scale.inverse_roots.Given as goal
 
 abbrev pub invariant-loop-a : goal.invariant-loop-a

@@ -1,9 +1,6 @@
 -- After t turns, t numbers are written.
-use mathlib.Core.Path.{◌≡◌}
-use Prim.Native.Nat.{◌+◌, ◌-◌, ◌≤◌}
-use Rattle.phonon.specs.Common.{scale, cat}
-use Rattle.planes.specs.Split.{WroteSplit}
-use Rattle.planes.proofs.SplitLaws.{split_none, split_step}
+use Rattle.phonon.specs.Common.{cat}
+use Rattle.planes.proofs.SplitLaws.{split_step}
 use native.Mathlib.Omega.{arith}
 use Rattle.reciprocal_to_normal.proofs.scale.scale_run.Goals as goal
 

@@ -1,12 +1,8 @@
 -- The slots below j are flagged.
-use mathlib.Core.Path.{◌≡◌, sym, ◌∙◌}
-use mathlib.Core.Bool.{true}
-use Prim.Native.Nat.{◌-◌, ◌≤◌}
+use mathlib.Core.Path.{sym, ◌∙◌}
 use Rattle.phonon.specs.Number.{flagged}
 use Rattle.phonon.specs.Sets.{slot}
-use Rattle.phonon.specs.Tests.{every_below}
 use Rattle.phonon.proofs.Accepted.{every_none, every_next, every_bad}
-use Rattle.reciprocal_to_normal.proofs.FlagLaws.{slot_lt, slot_sums}
 use native.Mathlib.Omega.{arith}
 use Rattle.reciprocal_to_normal.proofs.slots.all_flagged.Goals as goal
 

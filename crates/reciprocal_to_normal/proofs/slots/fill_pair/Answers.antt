@@ -1,14 +1,12 @@
 -- If all slots are flagged nothing is done; otherwise the row and the dots, one by one or all at once, give each slot's amplitude.
 use mathlib.Core.Path.{refl, sym, ◌∙◌}
 use Prim.Native.Nat.{◌+◌, ◌*◌}
-use native.Mathlib.Nat.{mul-le-mul}
 use Rattle.phonon.specs.Number.{at}
 use Rattle.planes.proofs.RegionLaws.{outside_none, outside_then, outside_split}
 use Rattle.reciprocal_to_normal.proofs.SlotLaws.{visited_ext}
 use Rattle.reciprocal_to_normal.proofs.FlagLaws.{column_passed}
 use Rattle.reciprocal_to_normal.proofs.AmplitudeLaws.{pair_is, sparse_is}
 use native.Mathlib.Omega.{arith}
-use borrow.Author.Rules.{rules}
 use Rattle.reciprocal_to_normal.proofs.slots.fill_pair.Goals as goal
 
 pub returns-then-all_flagged : goal.returns-then-all_flagged

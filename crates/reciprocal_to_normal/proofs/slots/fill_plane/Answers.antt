@@ -1,13 +1,8 @@
 -- The columns below k are visited, and what is read stays as it was.
-use mathlib.Core.Path.{◌≡◌}
-use Prim.Native.Nat.{◌+◌, ◌*◌, ◌-◌, ◌≤◌}
-use lib.ListN.{length}
-use Rattle.phonon.specs.Number.{at, flagged}
-use Rattle.planes.specs.Region.{SameOutside}
-use Rattle.planes.specs.Split.{split}
-use Rattle.planes.proofs.RegionLaws.{outside_none, outside_then, split_outside}
-use Rattle.reciprocal_to_normal.specs.Slots.{Visited, InPlane, plane_slot}
-use Rattle.reciprocal_to_normal.proofs.SlotLaws.{visited_none, visited_ext, plane_step}
+use Prim.Native.Nat.{◌*◌}
+use Rattle.phonon.specs.Number.{at}
+use Rattle.planes.proofs.RegionLaws.{outside_then, split_outside}
+use Rattle.reciprocal_to_normal.proofs.SlotLaws.{visited_ext, plane_step}
 use Rattle.reciprocal_to_normal.proofs.AmplitudeLaws.{plane_ext}
 use native.Mathlib.Omega.{arith}
 use Rattle.reciprocal_to_normal.proofs.slots.fill_plane.Goals as goal

@@ -1,13 +1,9 @@
 -- The slots below j are visited.
-use mathlib.Core.Path.{◌≡◌}
-use Prim.Native.Nat.{◌+◌, ◌*◌, ◌-◌, ◌≤◌}
-use lib.ListN.{length}
-use Rattle.phonon.specs.Number.{at, flagged}
+use Prim.Native.Nat.{◌+◌, ◌*◌}
+use Rattle.phonon.specs.Number.{at}
 use Rattle.phonon.specs.ReciprocalToNormal.{dot, strength_from}
 use Rattle.planes.specs.Split.{split, strided}
-use Rattle.reciprocal_to_normal.specs.Slots.{Visited, j_of, InColumn}
-use Rattle.reciprocal_to_normal.proofs.SlotLaws.{visited_none, visited_ext, column_step, at_slot}
-use Rattle.reciprocal_to_normal.proofs.FlagLaws.{slot_lt, slot_sums}
+use Rattle.reciprocal_to_normal.proofs.SlotLaws.{visited_ext, column_step, at_slot}
 use native.Mathlib.Omega.{arith}
 use Rattle.reciprocal_to_normal.proofs.slots.fill_sparse_column.Goals as goal
 

@@ -1,14 +1,12 @@
 -- The first bands below b are done: each slot holds its strength or, flagged, what stood there.
 use mathlib.Core.Path.{◌≡◌, refl}
-use Prim.Native.Nat.{◌+◌, ◌*◌, ◌-◌, ◌<◌, ◌≤◌}
-use native.Mathlib.Nat.{mul-le-mul}
+use Prim.Native.Nat.{◌+◌, ◌*◌, ◌<◌}
 use lib.ListN.{length}
-use Rattle.phonon.specs.Number.{at, flagged, index, int}
+use Rattle.phonon.specs.Number.{index, int}
 use Rattle.phonon.proofs.Accepted.{index_below}
-use Rattle.planes.specs.Region.{SameOutside}
-use Rattle.planes.proofs.RegionLaws.{outside_none, outside_then, outside_split, outside_wider}
-use Rattle.reciprocal_to_normal.specs.Slots.{Visited, b_of, j_of, k_of, InAll, slot_strength}
-use Rattle.reciprocal_to_normal.proofs.SlotLaws.{visited_none, visited_ext, visited_table, all_step, j_lt, b_lt}
+use Rattle.planes.proofs.RegionLaws.{outside_then, outside_split, outside_wider}
+use Rattle.reciprocal_to_normal.specs.Slots.{b_of, j_of, k_of, slot_strength}
+use Rattle.reciprocal_to_normal.proofs.SlotLaws.{visited_ext, visited_table, all_step, j_lt, b_lt}
 use Rattle.reciprocal_to_normal.proofs.FlagLaws.{plane_le}
 use Rattle.reciprocal_to_normal.proofs.AmplitudeLaws.{plane_is}
 use native.Mathlib.Omega.{arith}
