@@ -44,13 +44,13 @@ fn gather_column(
     b: usize,
     k: usize,
 )
-    requires nb_bound { (nb ≤ 3000)
+    requires sizes { (nb ≤ 3000)
         × (n < nb)
         × (k < nb)
         × ((b + 1) * nb * nb ≤ length out.old)
         × (length out.old ≤ length flags.now)
         × (to + nb * (nb * nb) ≤ length w.now) }
-    requires order_bound { (get_or order 0 0 < 3) × (get_or order 1 0 < 3) × (get_or order 2 0 < 3) }
+    requires legs { (get_or order 0 0 < 3) × (get_or order 1 0 < 3) × (get_or order 2 0 < 3) }
     ensures { Visited out.old out.new (flagged flags.now)
         (λ m. gathered w.now to nb order (λ i. n) (at out.old m) m) (length out.old) (InColumn nb b k nb) }
 {
@@ -71,12 +71,12 @@ fn gather_plane(
     n: usize,
     b: usize,
 )
-    requires nb_bound { (nb ≤ 3000)
+    requires sizes { (nb ≤ 3000)
         × (n < nb)
         × ((b + 1) * nb * nb ≤ length out.old)
         × (length out.old ≤ length flags.now)
         × (to + nb * (nb * nb) ≤ length w.now) }
-    requires order_bound { (get_or order 0 0 < 3) × (get_or order 1 0 < 3) × (get_or order 2 0 < 3) }
+    requires legs { (get_or order 0 0 < 3) × (get_or order 1 0 < 3) × (get_or order 2 0 < 3) }
     ensures { Visited out.old out.new (flagged flags.now)
         (λ m. gathered w.now to nb order (λ i. n) (at out.old m) m) (length out.old) (InPlane nb b nb) }
 {
@@ -95,12 +95,12 @@ pub fn gather_sixth(
     bands: &[i64],
     np: usize,
 )
-    requires le_np { (1 ≤ np)
+    requires sizes { (1 ≤ np)
         × (np ≤ 1000)
         × (length out.old ≡ length bands.now * (3 * np) * (3 * np))
         × (length flags.now ≡ length bands.now * (3 * np) * (3 * np))
         × (to + 3 * np * (3 * np * (3 * np)) ≤ length w.now) }
-    requires bands_value { (all_within (pos 0) (pos (3 * np - 1)) bands.now ≡ true) × (get_or order 0 0 < 3) × (get_or order 1 0 < 3) × (get_or order 2 0 < 3) }
+    requires entries { (all_within (pos 0) (pos (3 * np - 1)) bands.now ≡ true) × (get_or order 0 0 < 3) × (get_or order 1 0 < 3) × (get_or order 2 0 < 3) }
     ensures { out.new ≡ table (length bands.now * (3 * np) * (3 * np))
         (λ n. cond (flagged flags.now n) (at out.old n)
         (at out.old n ⊕ at w.now

@@ -29,8 +29,8 @@ fn list_slot(
     z: f64,
     cutoff: f64,
 )
-    requires le_np { (1 ≤ np) × (np ≤ 1000) × (j < 3 * np) × (k < 3 * np) }
-    requires np_bound { (mo + 2 * (3 * np * (3 * np)) ≤ ro)
+    requires sizes { (1 ≤ np) × (np ≤ 1000) × (j < 3 * np) × (k < 3 * np) }
+    requires layout { (mo + 2 * (3 * np * (3 * np)) ≤ ro)
         × (e1 + 2 * (3 * np * (3 * np)) ≤ ro)
         × (e2 + 2 * (3 * np * (3 * np)) ≤ ro)
         × (ro + 2 * (3 * np) ≤ to)
@@ -62,8 +62,8 @@ fn list_row(
     y: f64,
     cutoff: f64,
 )
-    requires le_np { (1 ≤ np) × (np ≤ 1000) × (j < 3 * np) × (3 * np ≤ length freqs2.now) }
-    requires np_bound { (mo + 2 * (3 * np * (3 * np)) ≤ ro)
+    requires sizes { (1 ≤ np) × (np ≤ 1000) × (j < 3 * np) × (3 * np ≤ length freqs2.now) }
+    requires layout { (mo + 2 * (3 * np * (3 * np)) ≤ ro)
         × (e1 + 2 * (3 * np * (3 * np)) ≤ ro)
         × (e2 + 2 * (3 * np * (3 * np)) ≤ ro)
         × (ro + 2 * (3 * np) ≤ to)
@@ -93,8 +93,8 @@ fn list_plane(
     x: f64,
     cutoff: f64,
 )
-    requires le_np { (1 ≤ np) × (np ≤ 1000) × (3 * np ≤ length freqs1.now) × (3 * np ≤ length freqs2.now) }
-    requires np_bound { (mo + 2 * (3 * np * (3 * np)) ≤ ro)
+    requires sizes { (1 ≤ np) × (np ≤ 1000) × (3 * np ≤ length freqs1.now) × (3 * np ≤ length freqs2.now) }
+    requires layout { (mo + 2 * (3 * np * (3 * np)) ≤ ro)
         × (e1 + 2 * (3 * np * (3 * np)) ≤ ro)
         × (e2 + 2 * (3 * np * (3 * np)) ≤ ro)
         × (ro + 2 * (3 * np) ≤ to)
@@ -138,8 +138,8 @@ pub fn full_strengths(
     np: usize,
     cutoff: f64,
 )
-    requires le_np { (1 ≤ np) × (np ≤ 1000) × (3 * np ≤ length freqs0.now) × (3 * np ≤ length freqs1.now) × (3 * np ≤ length freqs2.now) }
-    requires np_bound { (fo + 2 * (3 * np * (3 * np * (3 * np))) ≤ so)
+    requires sizes { (1 ≤ np) × (np ≤ 1000) × (3 * np ≤ length freqs0.now) × (3 * np ≤ length freqs1.now) × (3 * np ≤ length freqs2.now) }
+    requires layout { (fo + 2 * (3 * np * (3 * np * (3 * np))) ≤ so)
         × (e0 + 2 * (3 * np * (3 * np)) ≤ so)
         × (e1 + 2 * (3 * np * (3 * np)) ≤ so)
         × (e2 + 2 * (3 * np * (3 * np)) ≤ so)

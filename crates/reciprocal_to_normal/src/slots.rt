@@ -180,14 +180,14 @@ fn fill_pair(
     x: f64,
     cutoff: f64,
 )
-    requires le_np { (1 ≤ np)
+    requires sizes { (1 ≤ np)
         × (np ≤ 1000)
         × (k < 3 * np)
         × ((b + 1) * (3 * np) * (3 * np) ≤ length out.old)
         × (length out.old ≤ length flags.now)
         × (3 * np ≤ length freqs1.now)
         × (3 * np ≤ length freqs2.now) }
-    requires np_bound { (mo + 2 * (3 * np * (3 * np)) ≤ ro)
+    requires layout { (mo + 2 * (3 * np * (3 * np)) ≤ ro)
         × (e1 + 2 * (3 * np * (3 * np)) ≤ ro)
         × (e2 + 2 * (3 * np * (3 * np)) ≤ ro)
         × (ro + 4 * (3 * np) ≤ length w.old) }
@@ -230,13 +230,13 @@ fn fill_plane(
     x: f64,
     cutoff: f64,
 )
-    requires le_np { (1 ≤ np)
+    requires sizes { (1 ≤ np)
         × (np ≤ 1000)
         × ((b + 1) * (3 * np) * (3 * np) ≤ length out.old)
         × (length out.old ≤ length flags.now)
         × (3 * np ≤ length freqs1.now)
         × (3 * np ≤ length freqs2.now) }
-    requires np_bound { (mo + 2 * (3 * np * (3 * np)) ≤ ro)
+    requires layout { (mo + 2 * (3 * np * (3 * np)) ≤ ro)
         × (e1 + 2 * (3 * np * (3 * np)) ≤ ro)
         × (e2 + 2 * (3 * np * (3 * np)) ≤ ro)
         × (ro + 4 * (3 * np) ≤ length w.old) }
@@ -272,15 +272,15 @@ pub fn reciprocal_to_normal_squared(
     np: usize,
     cutoff: f64,
 )
-    requires le_np { (1 ≤ np)
+    requires sizes { (1 ≤ np)
         × (np ≤ 1000)
         × (length out.old ≡ length bands.now * (3 * np) * (3 * np))
         × (length flags.now ≡ length bands.now * (3 * np) * (3 * np)) }
-    requires np_in_bounds { (3 * np ≤ length freqs0.now)
+    requires tables { (3 * np ≤ length freqs0.now)
         × (3 * np ≤ length freqs1.now)
         × (3 * np ≤ length freqs2.now)
         × (all_within (pos 0) (pos (3 * np - 1)) bands.now ≡ true) }
-    requires np_bound { (fo + 2 * (3 * np * (3 * np * (3 * np))) ≤ so)
+    requires layout { (fo + 2 * (3 * np * (3 * np * (3 * np))) ≤ so)
         × (e0 + 2 * (3 * np * (3 * np)) ≤ so)
         × (e1 + 2 * (3 * np * (3 * np)) ≤ so)
         × (e2 + 2 * (3 * np * (3 * np)) ≤ so)

@@ -1,16 +1,8 @@
 -- The columns below c are written.
-use mathlib.Core.Path.{◌≡◌}
-use Prim.Native.Nat.{◌-◌, ◌≤◌}
-use borrow.Author.Rules.{rules}
-use Rattle.phonon.specs.Number.{at}
+use Prim.Native.Nat.{◌≤◌}
 use Rattle.phonon.specs.Common.{cadd, cmul}
 use Rattle.planes.specs.Split.{split, WroteSplit}
-use Rattle.planes.proofs.SplitLaws.{split_none, split_step, split_next}
-use native.Mathlib.Omega.{arith}
 use Rattle.reciprocal_to_normal.proofs.columns.add_columns.Given as goal
 
 abbrev pub invariant-loop-c : goal.invariant-loop-c
 invariant-loop-c l = (l.c ≤ l.m) × WroteSplit l.initial.t l.t 0 l.m l.c (λ k. cadd (split l.initial.t 0 l.m k) (cmul (split l.w l.from l.d k) l.v))
-
-abbrev pub decreases-loop-c : goal.decreases-loop-c
-decreases-loop-c l = l.m - l.c

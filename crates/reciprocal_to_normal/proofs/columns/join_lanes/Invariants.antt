@@ -1,17 +1,8 @@
 -- The columns below c are joined.
-use mathlib.Core.Path.{◌≡◌, refl, sym}
-use Prim.Native.Nat.{◌-◌, ◌≤◌}
-use borrow.Author.Rules.{rules}
-use Rattle.phonon.specs.Number.{at}
+use Prim.Native.Nat.{◌≤◌}
 use Rattle.phonon.specs.Common.{cadd}
 use Rattle.planes.specs.Split.{split, WroteSplit}
-use Rattle.planes.proofs.SplitLaws.{split_none, split_step}
-use Rattle.reciprocal_to_normal.proofs.ColumnLaws.{cols_of}
-use native.Mathlib.Omega.{arith}
 use Rattle.reciprocal_to_normal.proofs.columns.join_lanes.Given as goal
 
 abbrev pub invariant-loop-c : goal.invariant-loop-c
 invariant-loop-c l = (l.c ≤ 6) × WroteSplit l.initial.t l.t 0 6 l.c (λ k. cadd (cadd (split l.all 0 6 k) (split l.all 12 6 k)) (cadd (split l.all 24 6 k) (split l.all 36 6 k)))
-
-abbrev pub decreases-loop-c : goal.decreases-loop-c
-decreases-loop-c l = 6 - l.c

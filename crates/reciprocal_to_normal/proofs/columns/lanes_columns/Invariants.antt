@@ -1,15 +1,9 @@
 -- After p turns, p partial sums.
-use mathlib.Core.Path.{◌≡◌, sym}
-use Prim.Native.Nat.{◌+◌, ◌-◌, ◌≤◌}
+use Prim.Native.Nat.{◌+◌, ◌≤◌}
 use Rattle.phonon.specs.ReciprocalToNormal.{lane}
 use Rattle.planes.specs.Split.{column, strided}
 use Rattle.reciprocal_to_normal.specs.Columns.{Lanes}
-use Rattle.reciprocal_to_normal.proofs.ColumnLaws.{lanes_none, lanes_step}
-use native.Mathlib.Omega.{arith}
 use Rattle.reciprocal_to_normal.proofs.columns.lanes_columns.Given as goal
 
 abbrev pub invariant-loop-p : goal.invariant-loop-p
 invariant-loop-p l = (l.p ≤ 4) × Lanes l.all l.p (λ t c. lane l.n (column l.w l.mo l.d l.n (l.j + c)) (strided l.w l.vo l.vd l.vs) t)
-
-abbrev pub decreases-loop-p : goal.decreases-loop-p
-decreases-loop-p l = 4 - l.p

@@ -1,14 +1,8 @@
 -- The numbers below c are written.
-use mathlib.Core.Path.{◌≡◌, refl}
-use Prim.Native.Nat.{◌+◌, ◌-◌, ◌≤◌}
+use Prim.Native.Nat.{◌+◌, ◌≤◌}
 use Rattle.phonon.specs.Number.{at}
 use Rattle.planes.specs.Region.{Wrote}
-use Rattle.planes.proofs.RegionLaws.{wrote_none, wrote_step}
-use native.Mathlib.Omega.{arith}
 use Rattle.reciprocal_to_normal.proofs.columns.put_run.Given as goal
 
 abbrev pub invariant-loop-c : goal.invariant-loop-c
 invariant-loop-c l = (l.c ≤ l.m) × Wrote l.initial.w l.w l.to l.c (λ k. at l.t (l.from + k))
-
-abbrev pub decreases-loop-c : goal.decreases-loop-c
-decreases-loop-c l = l.m - l.c

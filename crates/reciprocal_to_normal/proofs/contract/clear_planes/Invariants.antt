@@ -1,14 +1,8 @@
 -- After x turns, x numbers are zero.
-use native.Mathlib.Omega.{arith}
-use mathlib.Core.Path.{◌≡◌, refl}
-use Prim.Native.Nat.{◌-◌, ◌≤◌}
+use Prim.Native.Nat.{◌≤◌}
 use Rattle.phonon.specs.Common.{czero}
 use Rattle.planes.specs.Split.{WroteSplit}
-use Rattle.planes.proofs.SplitLaws.{split_none, split_step}
 use Rattle.reciprocal_to_normal.proofs.contract.clear_planes.Given as goal
 
 abbrev pub invariant-loop-x : goal.invariant-loop-x
 invariant-loop-x l = (l.x ≤ l.d) × WroteSplit l.initial.w l.w l.off l.d l.x (λ _. czero)
-
-abbrev pub decreases-loop-x : goal.decreases-loop-x
-decreases-loop-x l = l.d - l.x

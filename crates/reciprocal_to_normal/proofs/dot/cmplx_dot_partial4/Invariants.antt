@@ -1,13 +1,10 @@
 -- After i blocks each partial sum has i terms; after the join, r terms of the remainder are added.
-use mathlib.Core.Path.{◌≡◌, refl, ap₂, ◌∙◌}
-use Prim.Native.Nat.{◌+◌, ◌*◌, ◌-◌, ◌/◌, ◌%◌, ◌<◌, ◌≤◌}
-use borrow.Author.Rules.{rules}
-use Rattle.phonon.specs.Number.{at, fold}
-use Rattle.phonon.specs.Common.{czero, cadd}
+use mathlib.Core.Path.{◌≡◌}
+use Prim.Native.Nat.{◌*◌, ◌-◌, ◌≤◌}
+use Rattle.phonon.specs.Number.{fold}
+use Rattle.phonon.specs.Common.{czero}
 use Rattle.planes.specs.Split.{split, strided}
-use Rattle.planes.proofs.Products.{row_le}
-use Rattle.reciprocal_to_normal.proofs.DotLaws.{term, lane_to, rest_to, turn, lane_done, first_lane_done, dot_done}
-use native.Mathlib.Omega.{arith}
+use Rattle.reciprocal_to_normal.proofs.DotLaws.{term, lane_to, rest_to}
 use Rattle.reciprocal_to_normal.proofs.dot.cmplx_dot_partial4.Given as goal
 
 abbrev pub invariant-loop-i : goal.invariant-loop-i

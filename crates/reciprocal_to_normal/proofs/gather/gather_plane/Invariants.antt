@@ -1,16 +1,10 @@
 -- The columns below k have gathered.
-use mathlib.Core.Path.{◌≡◌, ap}
-use Prim.Native.Nat.{◌-◌, ◌≤◌}
+use Prim.Native.Nat.{◌≤◌}
 use lib.ListN.{length}
 use Rattle.phonon.specs.Number.{at, flagged}
 use Rattle.reciprocal_to_normal.specs.Slots.{Visited, InPlane}
 use Rattle.reciprocal_to_normal.specs.Listing.{gathered}
-use Rattle.reciprocal_to_normal.proofs.SlotLaws.{visited_none, visited_ext, plane_step}
-use native.Mathlib.Omega.{arith}
 use Rattle.reciprocal_to_normal.proofs.gather.gather_plane.Given as goal
 
 abbrev pub invariant-loop-k : goal.invariant-loop-k
 invariant-loop-k l = (l.k ≤ l.nb) × Visited l.initial.out l.out (flagged l.flags) (λ m. gathered l.w l.to l.nb l.order (λ i. l.n) (at l.initial.out m) m) (length l.initial.out) (InPlane l.nb l.b l.k)
-
-abbrev pub decreases-loop-k : goal.decreases-loop-k
-decreases-loop-k l = l.nb - l.k

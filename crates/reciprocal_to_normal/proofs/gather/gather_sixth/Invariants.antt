@@ -1,21 +1,12 @@
 -- The first bands below b have gathered.
-use mathlib.Core.Path.{◌≡◌, ap, ◌∙◌}
-use Prim.Native.Nat.{◌*◌, ◌-◌, ◌≤◌}
+use Prim.Native.Nat.{◌*◌, ◌≤◌}
 use lib.ListN.{length}
 use Rattle.phonon.specs.Number.{at, index, int, flagged}
-use Rattle.phonon.proofs.Accepted.{index_below}
-use Rattle.reciprocal_to_normal.specs.Slots.{Visited, b_of, j_of, k_of, InAll}
+use Rattle.reciprocal_to_normal.specs.Slots.{Visited, InAll}
 use Rattle.reciprocal_to_normal.specs.Listing.{gathered}
-use Rattle.reciprocal_to_normal.proofs.SlotLaws.{visited_none, visited_ext, visited_table, all_step, b_lt}
-use Rattle.reciprocal_to_normal.proofs.FlagLaws.{plane_le}
-use Rattle.reciprocal_to_normal.proofs.GatherLaws.{band_gathered}
-use native.Mathlib.Omega.{arith}
 use Rattle.reciprocal_to_normal.proofs.gather.gather_sixth.Given as goal
 
 abbrev pub invariant-loop-b : goal.invariant-loop-b
 invariant-loop-b l =
     (l.b ≤ length l.bands)
     × Visited l.initial.out l.out (flagged l.flags) (λ m. gathered l.w l.to (3 * l.np) l.order (λ i. index (int l.bands i)) (at l.initial.out m) m) (length l.initial.out) (InAll (3 * l.np) l.b)
-
-abbrev pub decreases-loop-b : goal.decreases-loop-b
-decreases-loop-b l = l.b-end - l.b

@@ -1,11 +1,7 @@
 -- The columns below `done` are written, and the next six, of which some may be written anew, follow.
-use mathlib.Core.Path.{◌≡◌}
 use Prim.Native.Nat.{◌-◌, ◌≤◌}
 use Rattle.phonon.specs.ReciprocalToNormal.{dot}
 use Rattle.planes.specs.Split.{WroteSplit, column, strided}
-use Rattle.planes.proofs.SplitLaws.{split_none}
-use Rattle.reciprocal_to_normal.proofs.ColumnLaws.{row_block}
-use native.Mathlib.Omega.{arith}
 use Rattle.reciprocal_to_normal.proofs.row.contract_long_row.Given as goal
 
 abbrev pub invariant-loop-done : goal.invariant-loop-done

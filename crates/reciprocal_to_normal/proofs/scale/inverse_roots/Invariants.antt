@@ -1,15 +1,8 @@
 -- After a turns, a numbers are written.
-use mathlib.Core.Path.{◌≡◌, ap}
-use Prim.Native.Nat.{◌-◌, ◌≤◌}
-use Rattle.phonon.specs.Number.{◌⊘◌, f1}
+use Prim.Native.Nat.{◌≤◌}
 use Rattle.phonon.specs.ReciprocalToNormal.{inverse_root}
 use Rattle.planes.specs.Region.{Wrote}
-use Rattle.planes.proofs.RegionLaws.{wrote_none, wrote_step}
-use native.Mathlib.Omega.{arith}
 use Rattle.reciprocal_to_normal.proofs.scale.inverse_roots.Given as goal
 
 abbrev pub invariant-loop-a : goal.invariant-loop-a
 invariant-loop-a l = (l.a ≤ l.np) × Wrote l.initial.w l.w l.io l.a (inverse_root l.masses)
-
-abbrev pub decreases-loop-a : goal.decreases-loop-a
-decreases-loop-a l = l.np - l.a

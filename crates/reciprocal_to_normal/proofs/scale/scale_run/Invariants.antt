@@ -1,14 +1,8 @@
 -- After t turns, t numbers are written.
-use mathlib.Core.Path.{◌≡◌}
-use Prim.Native.Nat.{◌+◌, ◌-◌, ◌≤◌}
+use Prim.Native.Nat.{◌+◌, ◌≤◌}
 use Rattle.phonon.specs.Common.{scale, cat}
 use Rattle.planes.specs.Split.{WroteSplit}
-use Rattle.planes.proofs.SplitLaws.{split_none, split_step}
-use native.Mathlib.Omega.{arith}
 use Rattle.reciprocal_to_normal.proofs.scale.scale_run.Given as goal
 
 abbrev pub invariant-loop-t : goal.invariant-loop-t
 invariant-loop-t l = (l.t ≤ l.count) × WroteSplit l.initial.w l.w l.off l.d l.t (λ k. scale (cat l.x (l.from + k)) l.s)
-
-abbrev pub decreases-loop-t : goal.decreases-loop-t
-decreases-loop-t l = l.count - l.t

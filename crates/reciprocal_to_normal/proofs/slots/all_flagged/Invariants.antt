@@ -1,14 +1,10 @@
 -- The slots below j are flagged.
-use mathlib.Core.Path.{◌≡◌, sym, ◌∙◌}
+use mathlib.Core.Path.{◌≡◌}
 use mathlib.Core.Bool.{true}
 use Prim.Native.Nat.{◌-◌, ◌≤◌}
 use Rattle.phonon.specs.Number.{flagged}
 use Rattle.phonon.specs.Sets.{slot}
 use Rattle.phonon.specs.Tests.{every_below}
-use Rattle.phonon.proofs.Accepted.{every_none, every_next, every_bad}
-use Rattle.reciprocal_to_normal.proofs.FlagLaws.{slot_lt, slot_sums}
-use borrow.Author.Tests.{not-true, not-false}
-use native.Mathlib.Omega.{arith}
 use Rattle.reciprocal_to_normal.proofs.slots.all_flagged.Given as goal
 
 abbrev pub invariant-loop-j : goal.invariant-loop-j

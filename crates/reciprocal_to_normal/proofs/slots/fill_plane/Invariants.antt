@@ -1,21 +1,13 @@
 -- The columns below k are visited, and what is read stays as it was.
-use mathlib.Core.Path.{◌≡◌}
-use Prim.Native.Nat.{◌+◌, ◌*◌, ◌-◌, ◌≤◌}
+use Prim.Native.Nat.{◌+◌, ◌*◌, ◌≤◌}
 use lib.ListN.{length}
 use Rattle.phonon.specs.Number.{at, flagged}
 use Rattle.planes.specs.Region.{SameOutside}
 use Rattle.planes.specs.Split.{split}
-use Rattle.planes.proofs.RegionLaws.{outside_none, outside_then, split_outside}
 use Rattle.reciprocal_to_normal.specs.Slots.{Visited, InPlane, plane_slot}
-use Rattle.reciprocal_to_normal.proofs.SlotLaws.{visited_none, visited_ext, plane_step}
-use Rattle.reciprocal_to_normal.proofs.AmplitudeLaws.{plane_ext}
-use native.Mathlib.Omega.{arith}
 use Rattle.reciprocal_to_normal.proofs.slots.fill_plane.Given as goal
 
 abbrev pub invariant-loop-k : goal.invariant-loop-k
 invariant-loop-k l =
     (l.k ≤ 3 * l.np) × Visited l.initial.out l.out (flagged l.flags) (plane_slot (3 * l.np) (split l.initial.w l.mo (3 * l.np * (3 * l.np))) (split l.initial.w l.e1 (3 * l.np * (3 * l.np))) (split l.initial.w l.e2 (3 * l.np * (3 * l.np))) (at l.freqs1) (at l.freqs2) l.x l.cutoff)
     (length l.initial.out) (InPlane (3 * l.np) l.b l.k) × SameOutside l.initial.w l.w l.ro (l.ro + 4 * (3 * l.np))
-
-abbrev pub decreases-loop-k : goal.decreases-loop-k
-decreases-loop-k l = l.nb - l.k

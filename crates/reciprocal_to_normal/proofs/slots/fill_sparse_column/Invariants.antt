@@ -1,20 +1,13 @@
 -- The slots below j are visited.
-use mathlib.Core.Path.{◌≡◌}
-use Prim.Native.Nat.{◌+◌, ◌*◌, ◌-◌, ◌≤◌}
+use Prim.Native.Nat.{◌+◌, ◌*◌, ◌≤◌}
 use lib.ListN.{length}
 use Rattle.phonon.specs.Number.{at, flagged}
 use Rattle.phonon.specs.ReciprocalToNormal.{dot, strength_from}
 use Rattle.planes.specs.Split.{split, strided}
 use Rattle.reciprocal_to_normal.specs.Slots.{Visited, j_of, InColumn}
-use Rattle.reciprocal_to_normal.proofs.SlotLaws.{visited_none, visited_ext, column_step, at_slot}
-use Rattle.reciprocal_to_normal.proofs.FlagLaws.{slot_lt, slot_sums}
-use native.Mathlib.Omega.{arith}
 use Rattle.reciprocal_to_normal.proofs.slots.fill_sparse_column.Given as goal
 
 abbrev pub invariant-loop-j : goal.invariant-loop-j
 invariant-loop-j l =
     (l.j ≤ l.nb)
     × Visited l.initial.out l.out (flagged l.flags) (λ n. strength_from l.cutoff (dot l.nb (split l.w l.ro l.nb) (strided l.w (l.e1 + j_of l.nb n) (l.nb * l.nb) l.nb)) l.x (at l.freqs1 (j_of l.nb n)) l.z) (length l.initial.out) (InColumn l.nb l.b l.k l.j)
-
-abbrev pub decreases-loop-j : goal.decreases-loop-j
-decreases-loop-j l = l.nb - l.j

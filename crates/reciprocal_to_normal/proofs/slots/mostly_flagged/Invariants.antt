@@ -1,12 +1,6 @@
 -- The count is at most the number of slots passed.
-use mathlib.Core.Logic.{⊎_elim}
-use Prim.Native.Nat.{◌-◌, ◌≤◌}
-use Rattle.reciprocal_to_normal.proofs.FlagLaws.{slot_lt, slot_sums}
-use native.Mathlib.Omega.{arith}
+use Prim.Native.Nat.{◌≤◌}
 use Rattle.reciprocal_to_normal.proofs.slots.mostly_flagged.Given as goal
 
 abbrev pub invariant-loop-j : goal.invariant-loop-j
 invariant-loop-j l = (l.j ≤ l.nb) × (l.count ≤ l.j)
-
-abbrev pub decreases-loop-j : goal.decreases-loop-j
-decreases-loop-j l = l.nb - l.j

@@ -1,17 +1,9 @@
 -- The first bands below b are done: each slot holds its strength or, flagged, what stood there.
-use mathlib.Core.Path.{◌≡◌, refl}
-use Prim.Native.Nat.{◌+◌, ◌*◌, ◌-◌, ◌<◌, ◌≤◌}
-use native.Mathlib.Nat.{mul-le-mul}
+use Prim.Native.Nat.{◌+◌, ◌*◌, ◌≤◌}
 use lib.ListN.{length}
-use Rattle.phonon.specs.Number.{at, flagged, index, int}
-use Rattle.phonon.proofs.Accepted.{index_below}
+use Rattle.phonon.specs.Number.{flagged, index, int}
 use Rattle.planes.specs.Region.{SameOutside}
-use Rattle.planes.proofs.RegionLaws.{outside_none, outside_then, outside_split, outside_wider}
-use Rattle.reciprocal_to_normal.specs.Slots.{Visited, b_of, j_of, k_of, InAll, slot_strength}
-use Rattle.reciprocal_to_normal.proofs.SlotLaws.{visited_none, visited_ext, visited_table, all_step, j_lt, b_lt}
-use Rattle.reciprocal_to_normal.proofs.FlagLaws.{plane_le}
-use Rattle.reciprocal_to_normal.proofs.AmplitudeLaws.{plane_is}
-use native.Mathlib.Omega.{arith}
+use Rattle.reciprocal_to_normal.specs.Slots.{Visited, InAll, slot_strength}
 use Rattle.reciprocal_to_normal.proofs.slots.reciprocal_to_normal_squared.Given as goal
 
 abbrev pub invariant-loop-b : goal.invariant-loop-b
@@ -19,6 +11,3 @@ invariant-loop-b l =
     (l.b ≤ length l.bands)
     × Visited l.initial.out l.out (flagged l.flags) (slot_strength l.np l.initial.w l.fo l.e0 l.e1 l.e2 l.freqs0 l.freqs1 l.freqs2 (λ i. index (int l.bands i)) l.cutoff) (length l.initial.out) (InAll (3 * l.np) l.b)
     × SameOutside l.initial.w l.w l.so (l.so + 2 * (3 * l.np * (3 * l.np)) + 4 * (3 * l.np))
-
-abbrev pub decreases-loop-b : goal.decreases-loop-b
-decreases-loop-b l = l.b-end - l.b
