@@ -15,9 +15,6 @@ invariant-loop-k l =
     × Cells l.n l.j l.k (sum_of l.seconds l.thirds) l.sums
     × Cells l.n l.j l.k (difference_of l.seconds l.thirds) l.differences
 
-abbrev pub decreases-loop-k : goal.decreases-loop-k
-decreases-loop-k l = l.n - l.k
-
 abbrev pub invariant-loop-j : goal.invariant-loop-j
 invariant-loop-j l =
     (l.j ≤ l.n)
@@ -25,6 +22,3 @@ invariant-loop-j l =
     × (length l.differences ≡ length l.initial.differences)
     × Cells l.n l.j 0 (sum_of l.seconds l.thirds) l.sums
     × Cells l.n l.j 0 (difference_of l.seconds l.thirds) l.differences
-
-abbrev pub decreases-loop-j : goal.decreases-loop-j
-decreases-loop-j l = l.n - l.j

@@ -17,11 +17,5 @@ invariant-loop-j l =
     × (length l.pairs ≡ length l.initial.pairs)
     × Listed (l.n * l.n) (λ z g. fold l.j (fold l.k z (pair_column l.cutoff l.n l.seconds l.thirds g)) (pair_step l.cutoff l.n l.seconds g l.k l.q)) l.pairs l.m
 
-abbrev pub decreases-loop-j : goal.decreases-loop-j
-decreases-loop-j l = l.n - l.j
-
 abbrev pub invariant-loop-k : goal.invariant-loop-k
 invariant-loop-k l = (l.k ≤ l.n) × (l.m ≤ l.k * l.n) × (length l.pairs ≡ length l.initial.pairs) × Listed (l.n * l.n) (λ z g. fold l.k z (pair_column l.cutoff l.n l.seconds l.thirds g)) l.pairs l.m
-
-abbrev pub decreases-loop-k : goal.decreases-loop-k
-decreases-loop-k l = l.n - l.k

@@ -18,6 +18,3 @@ invariant-loop-i l =
     × (length l.two ≡ length l.initial.two)
     × Listed l.area (λ z g. fold l.i z (unflagged_step l.area l.c l.flags l.pairs g)) l.one l.m
     × Listed l.area (λ z g. fold l.i z (unflagged_step l.area l.d l.flags l.pairs g)) l.two l.l
-
-abbrev pub decreases-loop-i : goal.decreases-loop-i
-decreases-loop-i l = l.count - l.i

@@ -11,6 +11,3 @@ use Rattle.imag_self_energy.proofs.listed.sum_cold.Given as goal
 
 abbrev pub invariant-loop-i : goal.invariant-loop-i
 invariant-loop-i l = (l.i ≤ l.count) × (l.total ≡ fold l.i f0 (λ k t. t ⊕ cold_term l.weight l.x l.v (get_or l.list k 0)))
-
-abbrev pub decreases-loop-i : goal.decreases-loop-i
-decreases-loop-i l = l.count - l.i

@@ -14,14 +14,8 @@ use Rattle.imag_self_energy.proofs.plain.fill_plain.Given as goal
 abbrev pub invariant-loop-j : goal.invariant-loop-j
 invariant-loop-j l = (l.j ≤ l.n) × (l.total ≡ fold l.j l.initial.total (slot_step l.h l.n l.c l.b l.seconds l.flags l.first l.second l.strengths l.k l.q))
 
-abbrev pub decreases-loop-j : goal.decreases-loop-j
-decreases-loop-j l = l.n - l.j
-
 abbrev pub invariant-loop-k : goal.invariant-loop-k
 invariant-loop-k l = (l.k ≤ l.n) × (l.total ≡ fold l.k f0 (λ i. column_sum l.h l.n l.c l.b l.seconds l.flags l.first l.second l.strengths i (band_at l.thirds i)))
-
-abbrev pub decreases-loop-k : goal.decreases-loop-k
-decreases-loop-k l = l.n - l.k
 
 abbrev pub invariant-loop-b : goal.invariant-loop-b
 invariant-loop-b l =
@@ -29,6 +23,3 @@ invariant-loop-b l =
     × (l.b-end ≡ length l.initial.totals)
     × (length l.totals ≡ length l.initial.totals)
     × Filled l.totals l.b (λ i. band_total l.h l.n (block l.weights i) i l.seconds l.thirds l.flags l.first l.second l.strengths)
-
-abbrev pub decreases-loop-b : goal.decreases-loop-b
-decreases-loop-b l = l.b-end - l.b

@@ -9,6 +9,3 @@ use Rattle.imag_self_energy.proofs.plain.plain_totals.Given as goal
 
 abbrev pub invariant-loop-j : goal.invariant-loop-j
 invariant-loop-j l = (l.j ≤ l.n) × BothHeld l.h l.leg1 l.leg2 plain_bands l.j l.seconds l.thirds
-
-abbrev pub decreases-loop-j : goal.decreases-loop-j
-decreases-loop-j l = l.n - l.j
