@@ -4,19 +4,18 @@ use mathlib.Core.Path.{◌≡◌, refl, sym, ap, ◌∙◌, subst}
 use mathlib.Core.Bool.{Bool, true, false, not, cond, ◌&&◌, ◌||◌}
 use mathlib.Core.List.{List}
 use lib.Dec.{T}
-use lib.Ieee.{Float, binary64, fits, is_nan, lt, le, eq, of_bits}
+use lib.Ieee.{Float, binary64, fits, is_nan, lt, le, of_bits}
 use lib.Ieee.Fits.{add-fits, mul-fits, div-fits, cond-fits}
 use Rattle.phonon.specs.Number.{◌⊕◌, ◌⊖◌, ◌⊗◌, ◌⊘◌, f0, f1, f2, at}
 use Rattle.phonon.specs.Tests.{finite}
-use Rattle.phonon.specs.Exp.{exp}
 use Rattle.floats.proofs.Unsigned.{unsigned_add}
 use Rattle.floats.proofs.Numbers.{number_finite, number_add, number_sub}
 use Rattle.floats.proofs.Sums.{sum_above, zero_is}
 use Rattle.integration_weights.specs.declared.Shape.{Shape}
 use Rattle.integration_weights.specs.declared.Shape.TheVariants.{Gaussian, Lorentzian, Box}
-use Rattle.integration_weights.specs.Shapes.{f8, gaussian_scale, inverse_pi, magnitude, bell, gaussian_at, lorentzian_at, box_at, shape_at, width_of}
+use Rattle.integration_weights.specs.Shapes.{f8, gaussian_scale, inverse_pi, magnitude, bell, gaussian_at, lorentzian_at, box_at, shape_at}
 use Rattle.integration_weights.specs.Weights.{flag_of}
-use Rattle.integration_weights.specs.Rows.{Good, Finite, Value}
+use Rattle.integration_weights.specs.Rows.{Good, Value}
 use Rattle.integration_weights.proofs.Nonnegative.{nonnegative_shapes}
 use Rattle.integration_weights.proofs.SlotLaws.{Values}
 

@@ -3,7 +3,6 @@ use Prim.Native.Nat.{◌-◌, ◌*◌}
 use native.Mathlib.Omega.{arith}
 use mathlib.Core.Path.{◌≡◌, refl, sym, ◌∙◌}
 use mathlib.Core.Bool.{true}
-use borrow.Author.Rules.{rules}
 use lib.ListN.{length}
 use mir.ValLaws.{to_z_pos}
 use mir.Syntax.{w64}

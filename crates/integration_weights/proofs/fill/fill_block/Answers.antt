@@ -1,5 +1,5 @@
 -- After j turns the slots of the first j rows are written; a turn has its row lent and put back.
-use Prim.Native.Nat.{ℕ, ◌+◌, ◌*◌, ◌≤◌}
+use Prim.Native.Nat.{◌+◌, ◌*◌, ◌≤◌}
 use native.Mathlib.Nat.{mul-le-mul_right, zero-mul}
 use native.Mathlib.Omega.{arith}
 use mathlib.Core.Path.{sym}

@@ -1,15 +1,8 @@
 -- After j turns the slots of the first j rows are written; a turn has its row lent and put back.
-use Prim.Native.Nat.{ℕ, ◌+◌, ◌-◌, ◌*◌, ◌^◌, ◌<◌, ◌≤◌}
-use native.Mathlib.Nat.{mul-le-mul_right, zero-mul}
-use native.Mathlib.Omega.{arith}
-use mathlib.Core.Path.{◌≡◌, sym, ◌∙◌}
-use borrow.Author.Rules.{rules}
-use borrow.Rule.Slice.PartMut.{mid_len}
+use Prim.Native.Nat.{◌-◌, ◌*◌, ◌≤◌}
 use lib.ListN.{length}
-use Rattle.phonon.specs.Number.{at}
-use Rattle.planes.proofs.Products.{row_next}
-use Rattle.integration_weights.specs.Rows.{row_slot, block_slot}
-use Rattle.integration_weights.proofs.SlotLaws.{Slots, slots_none, slots_part, slots_at, slots_all, in_block}
+use Rattle.integration_weights.specs.Rows.{block_slot}
+use Rattle.integration_weights.proofs.SlotLaws.{Slots}
 use Rattle.integration_weights.proofs.fill.fill_block.Given as goal
 
 abbrev pub invariant-loop-j : goal.invariant-loop-j

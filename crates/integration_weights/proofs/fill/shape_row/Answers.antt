@@ -1,10 +1,8 @@
 -- After k slots each of the three slices holds the first k of its table: two slots more in a turn, and a last one where the row is odd.
-use Prim.Native.Nat.{◌+◌, ◌-◌}
+use Prim.Native.Nat.{◌+◌}
 use native.Mathlib.Omega.{arith}
-use borrow.Author.Rules.{rules}
-use lib.ListN.{length}
 use Rattle.integration_weights.proofs.ValueLaws.{values_good}
-use Rattle.integration_weights.proofs.SlotLaws.{Row, slots_none, slots_all, row_one, row_two}
+use Rattle.integration_weights.proofs.SlotLaws.{slots_none, slots_all, row_one, row_two}
 use Rattle.integration_weights.proofs.fill.shape_row.Goals as goal
 
 pub loop-k-init : goal.loop-k-init
@@ -13,7 +11,7 @@ loop-k-init c = slots_none _ _ c.requires.0
 pub put_two-requires : goal.put_two-requires
 put_two-requires c =
     let d = c.loop-k.invariant in
-        let a = c.args in
+    let a = c.args in
     let k = c.loop-k.k in
     let one = values_good a.s a.x a.y a.leg.now k c.requires.1 c.requires.2 c.requires.3 (c.requires.4 k (omega (arith, c.loop-k-test.true)))
     (record { one = c.shape_two-a.ensures.0; two = c.shape_two-b.ensures.0; three = c.shape_two-c.ensures.0 }) in
@@ -33,7 +31,7 @@ loop-k-preserved c =
 pub put_one-requires : goal.put_one-requires
 put_one-requires c =
     let d = c.loop-k.invariant in
-        let a = c.args in
+    let a = c.args in
     let k = c.loop-k.k in
     let one = values_good a.s a.x a.y a.leg.now k c.requires.1 c.requires.2 c.requires.3 (c.requires.4 k c.if-k-n.true)
     (record { one = c.shape_at-a.ensures; two = c.shape_two-b-then-k-n.ensures.0; three = c.shape_two-b-then-k-n.ensures.1 }) in

@@ -1,10 +1,7 @@
 -- After k slots each of the three slices holds the first k of its table: two slots more in a turn, and a last one where the row is odd.
-use Prim.Native.Nat.{◌+◌, ◌-◌}
-use native.Mathlib.Omega.{arith}
-use borrow.Author.Rules.{rules}
+use Prim.Native.Nat.{◌-◌}
 use lib.ListN.{length}
-use Rattle.integration_weights.proofs.ValueLaws.{values_good}
-use Rattle.integration_weights.proofs.SlotLaws.{Row, slots_none, slots_all, row_one, row_two}
+use Rattle.integration_weights.proofs.SlotLaws.{Row}
 use Rattle.integration_weights.proofs.fill.shape_row.Given as goal
 
 abbrev pub invariant-loop-k : goal.invariant-loop-k

@@ -1,12 +1,10 @@
 -- After i turns the distances of the first i slots are written, and the place is that of the next.
-use Prim.Native.Nat.{◌+◌, ◌-◌, ◌*◌, ◌<◌, ◌≤◌}
+use Prim.Native.Nat.{◌+◌, ◌*◌, ◌<◌}
 use native.Mathlib.Omega.{arith}
-use mathlib.Core.Path.{◌≡◌, refl, ap}
-use borrow.Author.Rules.{rules}
+use mathlib.Core.Path.{refl, ap}
 use lib.ListN.{length, length-set}
 use Rattle.phonon.specs.Number.{at}
-use Rattle.integration_weights.specs.Near.{Within, number, Distances}
-use Rattle.integration_weights.proofs.NearLaws.{block_below, frequencies_at, distances_none, distances_next}
+use Rattle.integration_weights.proofs.NearLaws.{block_below, frequencies_at, distances_next}
 use Rattle.integration_weights.proofs.gaussians.fill_distances.Goals as goal
 use Rattle.integration_weights.proofs.gaussians.fill_distances.Goals.{In-loop-i}
 

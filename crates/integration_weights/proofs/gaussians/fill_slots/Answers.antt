@@ -1,15 +1,10 @@
 -- After p slots each of the three slices holds the first p of its table; a turn has its slots lent and put back.
-use Prim.Native.Nat.{◌+◌, ◌-◌, ◌*◌}
+use Prim.Native.Nat.{◌+◌, ◌-◌}
 use native.Mathlib.Omega.{arith}
 use mathlib.Core.Path.{◌≡◌, refl, sym, ◌∙◌}
-use borrow.Author.Rules.{rules}
 use borrow.Rule.Slice.PartMut.{mid_len}
-use lib.ListN.{length}
-use Rattle.integration_weights.specs.declared.Shape.TheVariants.{Gaussian}
-use Rattle.integration_weights.specs.Rows.{slot_in}
-use Rattle.integration_weights.specs.Near.{Within, number}
-use Rattle.integration_weights.proofs.SlotLaws.{Slots, slots_none, slots_part, slots_all}
-use Rattle.integration_weights.proofs.NearLaws.{less_left, values_at, slot_is, slot_values}
+use Rattle.integration_weights.proofs.SlotLaws.{slots_none, slots_part, slots_all}
+use Rattle.integration_weights.proofs.NearLaws.{values_at, slot_is, slot_values}
 use Rattle.integration_weights.proofs.gaussians.fill_slots.Goals as goal
 
 pub loop-p-init : goal.loop-p-init

@@ -1,6 +1,5 @@
 -- The list, and the values at its places.
 use native.Mathlib.Omega.{arith}
-use borrow.Author.Rules.{rules}
 use Rattle.integration_weights.proofs.NearLaws.{values_all}
 use Rattle.integration_weights.proofs.gaussians.gaussian_all.Goals as goal
 

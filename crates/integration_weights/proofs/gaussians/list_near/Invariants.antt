@@ -1,12 +1,9 @@
 -- After e turns the first e distances are cleared, the others are as they were, and those of the first that are not cut are listed.
 use Prim.Native.Nat.{ℕ, ◌-◌, ◌≤◌, ◌<◌}
-use native.Mathlib.Omega.{arith}
-use mathlib.Core.Path.{◌≡◌, refl}
-use borrow.Author.Rules.{rules}
-use lib.ListN.{length, length-set}
+use mathlib.Core.Path.{◌≡◌}
+use lib.ListN.{length}
 use Rattle.phonon.specs.Number.{f0, at}
 use Rattle.integration_weights.specs.Near.{Near}
-use Rattle.integration_weights.proofs.NearLaws.{near_none, near_next, cleared_next, others_next}
 use Rattle.integration_weights.proofs.gaussians.list_near.Given as goal
 
 abbrev pub invariant-loop-e : goal.invariant-loop-e

@@ -1,11 +1,7 @@
 -- After k turns the first k slots are written.
-use Prim.Native.Nat.{◌+◌, ◌-◌, ◌*◌}
-use native.Mathlib.Omega.{arith}
-use borrow.Author.Rules.{rules}
-use lib.ListN.{length}
+use Prim.Native.Nat.{◌+◌, ◌*◌}
 use Rattle.phonon.specs.Number.{at}
-use Rattle.integration_weights.specs.Weights.{weights_from}
-use Rattle.integration_weights.proofs.SlotLaws.{Slots, slots_none, slots_from, slots_all}
+use Rattle.integration_weights.proofs.SlotLaws.{slots_none, slots_from}
 use Rattle.integration_weights.proofs.gaussians.put_slots.Goals as goal
 
 pub loop-k-init : goal.loop-k-init

@@ -1,11 +1,9 @@
 -- After k turns the first k slots are written.
 use Prim.Native.Nat.{◌+◌, ◌-◌, ◌*◌}
-use native.Mathlib.Omega.{arith}
-use borrow.Author.Rules.{rules}
 use lib.ListN.{length}
 use Rattle.phonon.specs.Number.{at}
 use Rattle.integration_weights.specs.Weights.{weights_from}
-use Rattle.integration_weights.proofs.SlotLaws.{Slots, slots_none, slots_from, slots_all}
+use Rattle.integration_weights.proofs.SlotLaws.{Slots}
 use Rattle.integration_weights.proofs.gaussians.put_slots.Given as goal
 
 abbrev pub invariant-loop-k : goal.invariant-loop-k

@@ -1,11 +1,8 @@
 -- After i turns the first i values stand at their places: two more in a turn, and a last one if their number is odd.
-use Prim.Native.Nat.{◌+◌, ◌-◌, ◌≤◌}
+use Prim.Native.Nat.{◌+◌}
 use native.Mathlib.Omega.{arith}
-use mathlib.Core.Path.{◌≡◌, ap, ◌∙◌}
-use borrow.Author.Rules.{rules}
-use lib.ListN.{length, length-set}
-use Rattle.integration_weights.specs.Near.{placed}
-use Rattle.integration_weights.proofs.NearLaws.{placed_none, next_is, placed_length}
+use mathlib.Core.Path.{◌≡◌}
+use Rattle.integration_weights.proofs.NearLaws.{placed_none, next_is}
 use Rattle.integration_weights.proofs.gaussians.put_values.Goals as goal
 
 pub loop-i-init : goal.loop-i-init

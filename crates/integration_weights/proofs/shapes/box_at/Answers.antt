@@ -1,5 +1,4 @@
 -- Inside, and outside.
-use borrow.Author.Rules.{rules}
 use Rattle.integration_weights.proofs.ShapeLaws.{inside, outside}
 use Rattle.integration_weights.proofs.shapes.box_at.Goals as goal
 

@@ -1,5 +1,4 @@
 -- Far off, and near.
-use borrow.Author.Rules.{rules}
 use Rattle.integration_weights.proofs.ShapeLaws.{far, near}
 use Rattle.integration_weights.proofs.shapes.gaussian_at.Goals as goal
 

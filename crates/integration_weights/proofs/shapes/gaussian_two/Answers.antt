@@ -1,5 +1,4 @@
 -- Where both are cut, both are 0.0; elsewhere each is what its own test says.
-use borrow.Author.Rules.{rules}
 use Rattle.phonon.proofs.Accepted.{and_both}
 use Rattle.integration_weights.proofs.ShapeLaws.{far, either}
 use Rattle.integration_weights.proofs.shapes.gaussian_two.Goals as goal

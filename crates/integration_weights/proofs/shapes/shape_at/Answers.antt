@@ -1,7 +1,6 @@
 -- By the three cases.
 use mathlib.Core.Path.{refl, ◌∙◌}
 use Rattle.integration_weights.specs.Shapes.{shape_at}
-use borrow.Author.Rules.{rules}
 use Rattle.integration_weights.proofs.shapes.shape_at.Goals as goal
 
 pub returns-in-Lorentzian : goal.returns-in-Lorentzian

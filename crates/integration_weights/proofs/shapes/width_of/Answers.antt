@@ -1,7 +1,6 @@
 -- By the three cases.
 use mathlib.Core.Path.{refl}
 use Rattle.integration_weights.specs.Shapes.{width_of}
-use borrow.Author.Rules.{rules}
 use Rattle.integration_weights.proofs.shapes.width_of.Goals as goal
 
 pub returns-in-Gaussian : goal.returns-in-Gaussian
