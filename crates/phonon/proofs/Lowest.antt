@@ -1,6 +1,6 @@
 -- The lowest number of the tests that fail: of two groups it is the lower of theirs, and each number is given exactly if a test of that number
 -- fails and none of a lower one does.
-use Prim.Native.Nat.{ℕ, zero, suc, ◌+◌, ◌<◌, ◌≤◌}
+use Prim.Native.Nat.{ℕ, zero, suc, ◌<◌, ◌≤◌}
 use native.Mathlib.Omega.{arith}
 use mathlib.Core.Path.{◌≡◌, refl, sym, ap, ◌∙◌}
 use native.Mathlib.Decide.{dec_lt}

@@ -1,5 +1,5 @@
 -- `common::normalised` meets its contract: a doubling of the digits goes with one less in the exponent. Assumes nothing.
-use Rattle.std.proofs.Common.{◌≡◌, ◌-◌, ◌*◌, ◌^◌, ◌<◌, ◌≤◌, refl, ◌∙◌, arith}
+use Rattle.std.proofs.Common.{◌∙◌, arith}
 use Rattle.common.proofs.Patterns.{normal_value, subnormal_value, doubled, low_exponent}
 use Rattle.common.proofs.normalised.Goals as goal
 

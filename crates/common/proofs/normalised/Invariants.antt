@@ -1,6 +1,5 @@
 -- `common::normalised` meets its contract: a doubling of the digits goes with one less in the exponent. Assumes nothing.
-use Rattle.std.proofs.Common.{◌≡◌, ◌-◌, ◌*◌, ◌^◌, ◌<◌, ◌≤◌, refl, ◌∙◌, arith}
-use Rattle.common.proofs.Patterns.{normal_value, subnormal_value, doubled, low_exponent}
+use Rattle.std.proofs.Common.{◌≡◌, ◌-◌, ◌*◌, ◌^◌, ◌<◌, ◌≤◌}
 use Rattle.common.proofs.normalised.Given as goal
 
 abbrev pub invariant-loop-digits : goal.invariant-loop-digits

@@ -1,6 +1,6 @@
 -- `common::root` meets its contract: the digits are the whole number nearest to a root, and with half the exponent they
 -- are the pattern of the definition's value. Assumes nothing.
-use Rattle.std.proofs.Common.{◌≡◌, ℕ, zero, suc, ◌-◌, ◌*◌, ◌/◌, ◌^◌, ◌<◌, ◌≤◌, true, false, ◌||◌, T, eqb, sym, refl, ◌∙◌, subst, ⊎_elim, true≢false, lt_irrefl, zero-lt-suc, mul-pos, arith, eqb→eq, rules, ltb-false}
+use Rattle.std.proofs.Common.{◌≡◌, ℕ, zero, suc, ◌-◌, ◌*◌, ◌/◌, ◌^◌, ◌<◌, ◌≤◌, true, false, ◌||◌, T, eqb, sym, refl, ◌∙◌, subst, true≢false, lt_irrefl, zero-lt-suc, mul-pos, arith, eqb→eq, ltb-false}
 use mathlib.Core.Bool.{beq}
 use lib.Ieee.Fits.{and_l, up_pos}
 use denote.Floats.{passes}
@@ -11,7 +11,7 @@ use Rattle.phonon.specs.Root.{root}
 use Rattle.phonon.proofs.Order.{level_zero}
 use Rattle.common.specs.Rounded.{Rounded}
 use Rattle.common.proofs.RootLaws.{digits_low, digits_high}
-use Rattle.common.proofs.RootFloat.{not_nan, pattern_pos, infinite, root_is, pattern_is, even_split, odd_split, units_pattern}
+use Rattle.common.proofs.RootFloat.{pattern_pos, infinite, root_is, pattern_is, even_split, odd_split, units_pattern}
 use Rattle.common.proofs.root.Goals as goal
 use Rattle.common.proofs.root.Goals.{Joined-e-eq0, then-e-eq0, else-e-eq0}
 
@@ -26,7 +26,7 @@ shifted c =
     let r = c.normalised-v.result in
     let b = c.normalised-v.ensures.bound in
     elim c.if-e-eq0.branch [
-      then-e-eq0 w ↦ rw w.m-is (record { low = omega arith; high = omega arith; value = even_split r.digits r.exponent b.2 w.if-e-eq0.true })
+      | then-e-eq0 w ↦ rw w.m-is (record { low = omega arith; high = omega arith; value = even_split r.digits r.exponent b.2 w.if-e-eq0.true })
       | else-e-eq0 w ↦ rw w.m-is (record { low = omega arith; high = omega arith; value = odd_split r.digits r.exponent b.2 w.if-e-eq0.false })
     ]
 

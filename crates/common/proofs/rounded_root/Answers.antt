@@ -1,7 +1,6 @@
 -- `common::rounded_root` meets its contract: after i turns `Turn` holds, and at the end the rest says which of two whole
 -- numbers is nearer. Assumes nothing.
-use Rattle.std.proofs.Common.{◌≡◌, ◌-◌, ⊎_elim, arith}
-use Rattle.common.proofs.Squares.{Turn, turn_up, turn_down, stay, go_up}
+use Rattle.common.proofs.Squares.{turn_up, turn_down}
 use Rattle.common.proofs.rounded_root.Goals as goal
 use Rattle.common.proofs.rounded_root.Goals.{then-root-have, else-root-have}
 

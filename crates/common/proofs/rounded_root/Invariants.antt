@@ -1,7 +1,7 @@
 -- `common::rounded_root` meets its contract: after i turns `Turn` holds, and at the end the rest says which of two whole
 -- numbers is nearer. Assumes nothing.
-use Rattle.std.proofs.Common.{◌≡◌, ◌-◌, ⊎_elim, arith}
-use Rattle.common.proofs.Squares.{Turn, turn_up, turn_down, stay, go_up}
+use Rattle.std.proofs.Common.{◌-◌}
+use Rattle.common.proofs.Squares.{Turn}
 use Rattle.common.proofs.rounded_root.Given as goal
 
 abbrev pub invariant-loop-i : goal.invariant-loop-i

@@ -1,9 +1,5 @@
 -- After i turns the first i numbers are 0.0.
-use Prim.Native.Nat.{◌-◌, ◌≤◌}
-use mathlib.Core.Path.{◌≡◌, refl}
-use mathlib.Core.List.{◌++◌}
-use lib.ListN.{length, length-set, replicate, drop}
-use Rattle.phonon.specs.Number.{f0}
+use lib.ListN.{length-set}
 use Rattle.planes.proofs.ClearLaws.{clear_more}
 use native.Mathlib.Omega.{arith}
 use Rattle.planes.proofs.clear.Goals as goal

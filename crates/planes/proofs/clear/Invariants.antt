@@ -1,11 +1,9 @@
 -- After i turns the first i numbers are 0.0.
 use Prim.Native.Nat.{◌-◌, ◌≤◌}
-use mathlib.Core.Path.{◌≡◌, refl}
+use mathlib.Core.Path.{◌≡◌}
 use mathlib.Core.List.{◌++◌}
-use lib.ListN.{length, length-set, replicate, drop}
+use lib.ListN.{length, replicate, drop}
 use Rattle.phonon.specs.Number.{f0}
-use Rattle.planes.proofs.ClearLaws.{clear_more}
-use native.Mathlib.Omega.{arith}
 use Rattle.planes.proofs.clear.Given as goal
 
 abbrev pub invariant-loop-i : goal.invariant-loop-i

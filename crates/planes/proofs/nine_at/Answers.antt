@@ -1,6 +1,5 @@
 -- Each number is read whole, and the nine are a part of the slice.
 use Prim.Native.Nat.{◌+◌}
-use borrow.Author.Rules.{rules}
 use Rattle.phonon.specs.Number.{int}
 use Rattle.planes.proofs.ReadLaws.{further, read_part}
 use Rattle.planes.proofs.SignedRead.{read}

@@ -4,7 +4,6 @@ use mathlib.Core.Path.{refl}
 use native.Mathlib.Omega.{arith}
 use native.Mathlib.Nat.{mul-le-mul}
 use Rattle.phonon.specs.Limits.{work_length}
-use borrow.Author.Rules.{rules}
 use Rattle.planes.proofs.work_length.Goals as goal
 
 powers : {p s : ℕ} → p ≤ 65536 → s ≤ 65536 → (p * p ≤ 65536 * 65536) × (p * p * p ≤ 65536 * 65536 * 65536) × (6 * p * s ≤ 393216 * 65536)

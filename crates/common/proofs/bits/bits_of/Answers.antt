@@ -5,7 +5,6 @@ use lib.Ieee.{Float, nan, inf, fin, binary64, up, down, eq, to_bits, of_bits}
 use lib.Ieee.Bits.{of_bits-to_bits}
 use Rattle.phonon.specs.Number.{bits}
 use denote.Floats.{passes}
-use Rattle.phonon.proofs.Order.{no_nan}
 use Rattle.common.proofs.bits.bits_of.Goals as goal
 
 beq_self : (s : Bool) → beq s s ≡ true

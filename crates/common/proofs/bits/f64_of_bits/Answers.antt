@@ -1,5 +1,5 @@
 -- The test is the library's test of a NaN's pattern; any other pattern is a number of its own.
-use Rattle.std.proofs.Common.{Bool, not, T, sym, refl, ◌∙◌, subst}
+use Rattle.std.proofs.Common.{Bool, not, T, sym, ◌∙◌, subst}
 use lib.Ieee.{binary64, div, of_bits, nan_bits}
 use lib.Ieee.Bits.{nan_bits_is}
 use Rattle.phonon.proofs.Order.{is_nan_lem}

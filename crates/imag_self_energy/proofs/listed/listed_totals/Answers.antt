@@ -18,5 +18,5 @@ loop-j-preserved c = (omega arith, both_step c.loop-j.invariant.1 (omega (arith,
 pub returns : goal.returns
 returns c =
     let l = c.loop-j in
-        let all : l.j ≡ c.args.n = omega arith in
+    let all : l.j ≡ c.args.n = omega arith in
     c.fill_lists.ensures ∙ both_totals _ _ _ (rw all at l.invariant.1) c.requires.1 c.requires.2 _ _ _ _ _ _
