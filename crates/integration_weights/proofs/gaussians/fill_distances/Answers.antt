@@ -16,6 +16,9 @@ below c =
     let n = length a.leg2.now in
     block_below p.b (length a.bands.now) (length a.leg1.now * n) (p.j * n + p.k) (omega (arith, c.loop-i-test.true, c.requires.2, c.loop-i.invariant.3))
 
+pub bounds-leg0-index_at : goal.bounds-leg0-index_at
+bounds-leg0-index_at c = omega (arith, c.index_at.ensures, c.requires.3 _ (below (goal.at.bounds-leg0-index_at c).In-loop-i))
+
 pub next-p-requires : goal.next-p-requires
 next-p-requires c = (c.loop-i.invariant.2, omega (arith, below (goal.at.next-p-requires c).In-loop-i))
 

@@ -1,5 +1,5 @@
 -- After i turns the distances of the first i slots are written, and the place is that of the next.
-use Prim.Native.Nat.{◌+◌, ◌-◌, ◌≤◌}
+use Prim.Native.Nat.{◌+◌, ◌≤◌}
 use mathlib.Core.Path.{◌≡◌}
 use lib.ListN.{length}
 use Rattle.integration_weights.specs.Near.{Within, number, Distances}
@@ -12,6 +12,3 @@ invariant-loop-i l =
     × Within (length l.leg1) (length l.leg2) l.p
     × (number (length l.leg1) (length l.leg2) l.p ≡ number (length l.leg1) (length l.leg2) l.initial.p + l.i)
     × Distances l.bands l.leg0 l.leg1 l.leg2 (number (length l.leg1) (length l.leg2) l.initial.p) l.i l.d
-
-abbrev pub decreases-loop-i : goal.decreases-loop-i
-decreases-loop-i l = l.n - l.i

@@ -1,5 +1,5 @@
 -- After e turns the first e distances are cleared, the others are as they were, and those of the first that are not cut are listed.
-use Prim.Native.Nat.{ℕ, ◌-◌, ◌≤◌, ◌<◌}
+use Prim.Native.Nat.{ℕ, ◌≤◌, ◌<◌}
 use mathlib.Core.Path.{◌≡◌}
 use lib.ListN.{length}
 use Rattle.phonon.specs.Number.{f0, at}
@@ -15,6 +15,3 @@ invariant-loop-e l =
     × ((k : ℕ) → k < l.e → at l.d k ≡ f0)
     × ((k : ℕ) → l.e ≤ k → at l.d k ≡ at l.initial.d k)
     × Near l.w l.initial.d l.e l.places l.near l.m
-
-abbrev pub decreases-loop-e : goal.decreases-loop-e
-decreases-loop-e l = l.n - l.e
