@@ -205,6 +205,7 @@ pub fn all_positive(s: &[f64]) -> bool
 // ---- the multiplicity table: row j is a supercell atom, column i an atom of the primitive cell, and entry
 // n = j * columns + i has its count at 2 * n and its start behind it
 
+#[tactic(auto, using(crate::proofs::RangeLaws::no_count))]
 fn vector_range(vectors: usize, count: i64, start: i64) -> bool
     ensures { result ≡ vector_range vectors count start }
 {

@@ -21,6 +21,7 @@ pub enum Checked {
 }
 
 // The lower of two numbers, of which 0 is none.
+#[tactic(auto, using(phonon::proofs::Lowest::lower_first, phonon::proofs::Lowest::lower_zero, phonon::proofs::Lowest::lower_least, phonon::proofs::Lowest::lower_second))]
 pub fn lower_of(a: u8, b: u8) -> u8
     ensures { result ≡ lower a b }
 {
