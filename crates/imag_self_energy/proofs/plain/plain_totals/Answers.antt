@@ -1,10 +1,9 @@
 -- After j turns the first j bands of both later legs are held; all held, the sums are those of the bands.
-use Prim.Native.Nat.{◌-◌, ◌≤◌}
-use mathlib.Core.Path.{◌≡◌, refl, ◌∙◌}
+use Prim.Native.Nat.{◌≤◌}
+use mathlib.Core.Path.{◌≡◌, ◌∙◌}
 use native.Mathlib.Omega.{arith}
-use borrow.Author.Rules.{rules}
 use Rattle.imag_self_energy.specs.Bands.{plain_bands}
-use Rattle.imag_self_energy.proofs.Laws.{BothHeld, both_none, both_step, both_totals}
+use Rattle.imag_self_energy.proofs.Laws.{both_step, both_totals}
 use Rattle.imag_self_energy.proofs.plain.plain_totals.Goals as goal
 use Rattle.imag_self_energy.proofs.plain.plain_totals.Goals.{After-occupations-o}
 
@@ -18,5 +17,5 @@ loop-j-preserved c = (omega arith, both_step c.loop-j.invariant.1 (omega (arith,
 pub returns : goal.returns
 returns c =
     let l = c.loop-j in
-        let all : l.j ≡ c.args.n = omega arith in
+    let all : l.j ≡ c.args.n = omega arith in
     c.fill_plain.ensures ∙ both_totals _ _ _ (rw all at l.invariant.1) c.requires.2 c.requires.3 _ _ _ _ _ _
