@@ -1,6 +1,6 @@
 -- The legs are the points' stretches of the frequencies, and the weight is cast once: the sums of their bands are the definition's totals.
 use mathlib.Core.Path.{◌≡◌, ap, ◌∙◌}
-use borrow.Author.Rules.{rules, sfits_of}
+use borrow.Author.Rules.{rules}
 use lib.ListN.{length}
 use mir.ValLaws.{to_z-of_z}
 use mir.Syntax.{w64}

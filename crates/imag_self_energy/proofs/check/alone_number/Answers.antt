@@ -2,7 +2,6 @@
 use native.Mathlib.Omega.{arith}
 use mathlib.Core.Path.{◌≡◌, refl, sym, ◌∙◌}
 use mathlib.Core.Bool.{true, ◌&&◌}
-use borrow.Author.Rules.{rules}
 use lib.ListN.{length}
 use Rattle.phonon.specs.Tests.{all_true, all_true_after}
 use Rattle.phonon.specs.Refusal.{alone_lengths, alone_finite}

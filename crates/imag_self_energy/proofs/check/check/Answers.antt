@@ -2,7 +2,6 @@
 use native.Mathlib.Omega.{arith}
 use mathlib.Core.Path.{◌≡◌, refl, sym, ◌∙◌}
 use mathlib.Core.Bool.{true}
-use borrow.Author.Rules.{rules}
 use Rattle.phonon.specs.Sets.{measures_of}
 use Rattle.phonon.specs.Refusal.{measures_ok, totals_refusal}
 use Rattle.phonon.proofs.Lowest.{stop, join3}

@@ -1,7 +1,4 @@
 -- Few bands: the products are small. By the weights' form.
-use native.Mathlib.Omega.{arith}
-use native.Mathlib.Nat.{mul-le-mul}
-use mathlib.Core.Path.{refl}
 use borrow.Author.Rules.{rules}
 use Rattle.phonon.specs.Limits.{entries_of}
 use Rattle.imag_self_energy.proofs.check.entries_of.Goals as goal

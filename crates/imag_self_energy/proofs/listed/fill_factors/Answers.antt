@@ -1,10 +1,8 @@
 -- After j rows, and k pairs of row j, both tables have their factors.
-use Prim.Native.Nat.{◌-◌, ◌≤◌}
 use mathlib.Core.Path.{◌≡◌, refl, ◌∙◌}
 use native.Mathlib.Omega.{arith}
-use lib.ListN.{length, length-set}
-use Rattle.imag_self_energy.specs.Lists.{sum_of, difference_of}
-use Rattle.imag_self_energy.proofs.ListLaws.{Cells, cells_none, cells_step, cells_next, Room, room_of}
+use lib.ListN.{length-set}
+use Rattle.imag_self_energy.proofs.ListLaws.{cells_step, cells_next, Room, room_of}
 use Rattle.imag_self_energy.proofs.listed.fill_factors.Goals as goal
 use Rattle.imag_self_energy.proofs.listed.fill_factors.Goals.{In-loop-k}
 

@@ -1,10 +1,9 @@
 -- After j rows, and k pairs of row j, both tables have their factors.
-use Prim.Native.Nat.{◌-◌, ◌≤◌}
-use mathlib.Core.Path.{◌≡◌, refl, ◌∙◌}
-use native.Mathlib.Omega.{arith}
-use lib.ListN.{length, length-set}
+use Prim.Native.Nat.{◌≤◌}
+use mathlib.Core.Path.{◌≡◌}
+use lib.ListN.{length}
 use Rattle.imag_self_energy.specs.Lists.{sum_of, difference_of}
-use Rattle.imag_self_energy.proofs.ListLaws.{Cells, cells_none, cells_step, cells_next, Room, room_of}
+use Rattle.imag_self_energy.proofs.ListLaws.{Cells}
 use Rattle.imag_self_energy.proofs.listed.fill_factors.Given as goal
 
 abbrev pub invariant-loop-k : goal.invariant-loop-k

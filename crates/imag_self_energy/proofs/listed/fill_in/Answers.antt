@@ -1,6 +1,5 @@
 -- The walks over the pairs that are listed are the totals.
 use lib.ListN.{length}
-use borrow.Author.Rules.{rules}
 use Rattle.imag_self_energy.proofs.ListLaws.{pair_totals}
 use Rattle.imag_self_energy.proofs.listed.fill_in.Goals as goal
 

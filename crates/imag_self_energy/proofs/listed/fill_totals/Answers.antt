@@ -1,16 +1,13 @@
 -- Two totals a turn: each is the sum over its list, which is the walk over the pairs that are unflagged.
-use Prim.Native.Nat.{ℕ, ◌+◌, ◌*◌, ◌-◌, ◌≤◌, ◌<◌}
-use mathlib.Core.Path.{◌≡◌, refl, ◌∙◌}
+use Prim.Native.Nat.{ℕ, ◌+◌, ◌*◌, ◌≤◌, ◌<◌}
+use mathlib.Core.Path.{◌≡◌, ◌∙◌}
 use mathlib.Core.List.{List}
 use mathlib.Core.Logic.{⊎_elim}
 use native.Mathlib.Nat.{mul-le-mul}
 use native.Mathlib.Omega.{arith}
-use borrow.Author.Rules.{rules}
 use lib.Ieee.{Float}
 use lib.ListN.{length, set, length-set}
-use Rattle.phonon.specs.ImagSelfEnergy.{block}
-use Rattle.imag_self_energy.specs.Lists.{pair_total}
-use Rattle.imag_self_energy.proofs.Laws.{Within, sized_within, Filled, filled_none, filled_two, filled_table}
+use Rattle.imag_self_energy.proofs.Laws.{Within, sized_within, filled_two, filled_table}
 use Rattle.imag_self_energy.proofs.ListLaws.{total_listed}
 use Rattle.imag_self_energy.proofs.listed.fill_totals.Goals as goal
 use Rattle.imag_self_energy.proofs.listed.fill_totals.Goals.{After-block_of-d, After-sum_listed-in-loop-b}

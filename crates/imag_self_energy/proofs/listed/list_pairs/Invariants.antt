@@ -1,13 +1,9 @@
 -- After k columns, and j pairs of column k, the list has those that both exceed the cutoff.
-use Prim.Native.Nat.{◌+◌, ◌*◌, ◌-◌, ◌≤◌}
-use mathlib.Core.Path.{◌≡◌, refl, sym, ◌∙◌}
-use native.Mathlib.Omega.{arith}
-use native.Mathlib.Nat.{add-mul, one-mul}
-use lib.ListN.{length, length-set}
+use Prim.Native.Nat.{◌+◌, ◌*◌, ◌≤◌}
+use mathlib.Core.Path.{◌≡◌}
+use lib.ListN.{length}
 use Rattle.phonon.specs.Number.{fold}
-use Rattle.phonon.proofs.Laws.{fold_step}
-use Rattle.imag_self_energy.specs.Lists.{Listed, pair_step, pair_column, pair_walk}
-use Rattle.imag_self_energy.proofs.ListLaws.{listed_none, listed_same, pair_turn, Room, room_of}
+use Rattle.imag_self_energy.specs.Lists.{Listed, pair_step, pair_column}
 use Rattle.imag_self_energy.proofs.listed.list_pairs.Given as goal
 
 abbrev pub invariant-loop-j : goal.invariant-loop-j

@@ -1,12 +1,11 @@
 -- After i turns both lists have what is unflagged of the first i pairs.
-use Prim.Native.Nat.{◌-◌, ◌≤◌, ◌<◌}
+use Prim.Native.Nat.{◌<◌}
 use mathlib.Core.Path.{◌≡◌, refl}
 use native.Mathlib.Omega.{arith}
-use borrow.Author.Rules.{rules}
-use lib.ListN.{length, length-set}
+use lib.ListN.{length-set}
 use Rattle.phonon.specs.Number.{fold}
-use Rattle.imag_self_energy.specs.Lists.{Listed, unflagged_step, unflagged_walk}
-use Rattle.imag_self_energy.proofs.ListLaws.{listed_none, unflagged_turn, place_below}
+use Rattle.imag_self_energy.specs.Lists.{unflagged_walk}
+use Rattle.imag_self_energy.proofs.ListLaws.{listed_none, unflagged_turn}
 use Rattle.imag_self_energy.proofs.listed.list_unflagged.Goals as goal
 use Rattle.imag_self_energy.proofs.listed.list_unflagged.Goals.{After-wide-o}
 

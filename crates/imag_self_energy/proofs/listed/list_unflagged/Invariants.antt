@@ -1,12 +1,9 @@
 -- After i turns both lists have what is unflagged of the first i pairs.
-use Prim.Native.Nat.{◌-◌, ◌≤◌, ◌<◌}
-use mathlib.Core.Path.{◌≡◌, refl}
-use native.Mathlib.Omega.{arith}
-use borrow.Author.Rules.{rules}
-use lib.ListN.{length, length-set}
+use Prim.Native.Nat.{◌≤◌}
+use mathlib.Core.Path.{◌≡◌}
+use lib.ListN.{length}
 use Rattle.phonon.specs.Number.{fold}
-use Rattle.imag_self_energy.specs.Lists.{Listed, unflagged_step, unflagged_walk}
-use Rattle.imag_self_energy.proofs.ListLaws.{listed_none, unflagged_turn, place_below}
+use Rattle.imag_self_energy.specs.Lists.{Listed, unflagged_step}
 use Rattle.imag_self_energy.proofs.listed.list_unflagged.Given as goal
 
 abbrev pub invariant-loop-i : goal.invariant-loop-i

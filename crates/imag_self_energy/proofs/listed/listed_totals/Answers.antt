@@ -1,10 +1,9 @@
 -- After j turns the first j bands of both later legs are held, as in plain_totals.
-use Prim.Native.Nat.{◌-◌, ◌≤◌}
-use mathlib.Core.Path.{◌≡◌, refl, ◌∙◌}
+use Prim.Native.Nat.{◌≤◌}
+use mathlib.Core.Path.{◌≡◌, ◌∙◌}
 use native.Mathlib.Omega.{arith}
-use borrow.Author.Rules.{rules}
 use Rattle.imag_self_energy.specs.Bands.{most_bands}
-use Rattle.imag_self_energy.proofs.Laws.{BothHeld, both_none, both_step, both_totals}
+use Rattle.imag_self_energy.proofs.Laws.{both_step, both_totals}
 use Rattle.imag_self_energy.proofs.listed.listed_totals.Goals as goal
 use Rattle.imag_self_energy.proofs.listed.listed_totals.Goals.{After-occupations-o}
 

@@ -1,10 +1,7 @@
 -- After j turns the first j bands of both later legs are held, as in plain_totals.
-use Prim.Native.Nat.{◌-◌, ◌≤◌}
-use mathlib.Core.Path.{◌≡◌, refl, ◌∙◌}
-use native.Mathlib.Omega.{arith}
-use borrow.Author.Rules.{rules}
+use Prim.Native.Nat.{◌≤◌}
 use Rattle.imag_self_energy.specs.Bands.{most_bands}
-use Rattle.imag_self_energy.proofs.Laws.{BothHeld, both_none, both_step, both_totals}
+use Rattle.imag_self_energy.proofs.Laws.{BothHeld}
 use Rattle.imag_self_energy.proofs.listed.listed_totals.Given as goal
 
 abbrev pub invariant-loop-j : goal.invariant-loop-j

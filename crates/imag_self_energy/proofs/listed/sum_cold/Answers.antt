@@ -1,12 +1,11 @@
 -- After i turns the sum is that of the first i places of the list.
-use Prim.Native.Nat.{◌-◌, ◌≤◌, ◌<◌}
-use mathlib.Core.Path.{◌≡◌, refl}
+use Prim.Native.Nat.{◌<◌}
+use mathlib.Core.Path.{refl}
 use native.Mathlib.Omega.{arith}
-use borrow.Author.Rules.{rules}
-use lib.ListN.{get_or, length}
-use Rattle.phonon.specs.Number.{◌⊕◌, f0, fold}
+use lib.ListN.{length}
+use Rattle.phonon.specs.Number.{fold}
 use Rattle.imag_self_energy.specs.Lists.{cold_term}
-use Rattle.imag_self_energy.proofs.Laws.{turn, at_end}
+use Rattle.imag_self_energy.proofs.Laws.{turn}
 use Rattle.imag_self_energy.proofs.listed.sum_cold.Goals as goal
 use Rattle.imag_self_energy.proofs.listed.sum_cold.Goals.{After-wide-o}
 

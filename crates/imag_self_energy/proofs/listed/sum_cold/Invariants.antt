@@ -1,12 +1,9 @@
 -- After i turns the sum is that of the first i places of the list.
-use Prim.Native.Nat.{◌-◌, ◌≤◌, ◌<◌}
-use mathlib.Core.Path.{◌≡◌, refl}
-use native.Mathlib.Omega.{arith}
-use borrow.Author.Rules.{rules}
-use lib.ListN.{get_or, length}
+use Prim.Native.Nat.{◌≤◌}
+use mathlib.Core.Path.{◌≡◌}
+use lib.ListN.{get_or}
 use Rattle.phonon.specs.Number.{◌⊕◌, f0, fold}
 use Rattle.imag_self_energy.specs.Lists.{cold_term}
-use Rattle.imag_self_energy.proofs.Laws.{turn, at_end}
 use Rattle.imag_self_energy.proofs.listed.sum_cold.Given as goal
 
 abbrev pub invariant-loop-i : goal.invariant-loop-i

@@ -1,8 +1,6 @@
 -- One of the two sums, by the temperature, of the blocks.
 use mathlib.Core.Path.{refl, ◌∙◌}
-use native.Mathlib.Omega.{arith}
 use Rattle.imag_self_energy.specs.Lists.{place_term}
-use borrow.Author.Rules.{rules}
 use Rattle.imag_self_energy.proofs.listed.sum_listed.Goals as goal
 
 pub returns-then-h : goal.returns-then-h

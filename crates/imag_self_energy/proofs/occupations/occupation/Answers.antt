@@ -1,5 +1,4 @@
 -- Above the cutoff the occupation is worked out; elsewhere it is the mark.
-use borrow.Author.Rules.{rules}
 use lib.Ieee.{neg, of_bits}
 use Rattle.imag_self_energy.proofs.Laws.{above, below}
 use Rattle.imag_self_energy.proofs.occupations.occupation.Goals as goal

@@ -1,5 +1,4 @@
 -- Where both exceed the cutoff both are worked out; elsewhere each by itself.
-use borrow.Author.Rules.{rules}
 use Rattle.phonon.proofs.Accepted.{and_both}
 use Rattle.imag_self_energy.proofs.Laws.{above}
 use Rattle.imag_self_energy.proofs.occupations.occupations.Goals as goal

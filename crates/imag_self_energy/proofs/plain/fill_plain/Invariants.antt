@@ -1,14 +1,11 @@
 -- After b turns the totals before b are filled; within a turn the sum is that of the columns before k, and of the slots before j.
-use Prim.Native.Nat.{◌-◌, ◌≤◌, ◌<◌}
-use mathlib.Core.Path.{◌≡◌, refl, ◌∙◌}
-use native.Mathlib.Omega.{arith}
-use borrow.Author.Rules.{rules}
-use lib.ListN.{length, length-set}
+use Prim.Native.Nat.{◌≤◌}
+use mathlib.Core.Path.{◌≡◌}
+use lib.ListN.{length}
 use Rattle.phonon.specs.Number.{f0, fold}
 use Rattle.phonon.specs.ImagSelfEnergy.{block}
 use Rattle.imag_self_energy.specs.Bands.{band_at, slot_step, column_sum, band_total}
-use Rattle.imag_self_energy.proofs.Laws.{sized_within, turn, at_end, Filled, filled_none, filled_step, filled_table}
-use Rattle.imag_self_energy.proofs.SlotLaws.{SlotWithin, slot_within, whole}
+use Rattle.imag_self_energy.proofs.Laws.{Filled}
 use Rattle.imag_self_energy.proofs.plain.fill_plain.Given as goal
 
 abbrev pub invariant-loop-j : goal.invariant-loop-j

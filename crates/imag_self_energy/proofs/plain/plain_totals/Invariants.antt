@@ -1,10 +1,7 @@
 -- After j turns the first j bands of both later legs are held; all held, the sums are those of the bands.
-use Prim.Native.Nat.{◌-◌, ◌≤◌}
-use mathlib.Core.Path.{◌≡◌, refl, ◌∙◌}
-use native.Mathlib.Omega.{arith}
-use borrow.Author.Rules.{rules}
+use Prim.Native.Nat.{◌≤◌}
 use Rattle.imag_self_energy.specs.Bands.{plain_bands}
-use Rattle.imag_self_energy.proofs.Laws.{BothHeld, both_none, both_step, both_totals}
+use Rattle.imag_self_energy.proofs.Laws.{BothHeld}
 use Rattle.imag_self_energy.proofs.plain.plain_totals.Given as goal
 
 abbrev pub invariant-loop-j : goal.invariant-loop-j
