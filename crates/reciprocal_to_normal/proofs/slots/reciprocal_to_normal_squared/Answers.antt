@@ -7,7 +7,6 @@ use Rattle.phonon.proofs.Accepted.{index_below}
 use Rattle.planes.proofs.RegionLaws.{outside_then, outside_split, outside_wider}
 use Rattle.reciprocal_to_normal.specs.Slots.{b_of, j_of, k_of, slot_strength}
 use Rattle.reciprocal_to_normal.proofs.SlotLaws.{visited_ext, visited_table, all_step, j_lt, b_lt}
-use Rattle.reciprocal_to_normal.proofs.FlagLaws.{plane_le}
 use Rattle.reciprocal_to_normal.proofs.AmplitudeLaws.{plane_is}
 use native.Mathlib.Omega.{arith}
 use Rattle.reciprocal_to_normal.proofs.slots.reciprocal_to_normal_squared.Goals as goal
@@ -15,26 +14,26 @@ use Rattle.reciprocal_to_normal.proofs.slots.reciprocal_to_normal_squared.Goals 
 pub offset_bounds-freqs0-n : goal.offset_bounds-freqs0-n
 offset_bounds-freqs0-n c =
     let a = c.args in
-    let h = index_below (3 * a.np) a.bands.now (omega (arith, c.requires.sizes.0)) c.requires.tables.3 c.loop-b.b c.loop-b-test.true in
-    omega (arith, h, c.index_at-n.ensures, plane_le (3 * a.np) c.loop-b-test.true, c.requires.sizes, c.requires.tables.0, c.requires.tables.1, c.requires.tables.2, c.requires.layout, c.loop-b.invariant.1.size, c.loop-b.invariant.2.size)
+    let h = index_below (3 * a.np) a.bands.now (omega arith) c.requires.tables.3 c.loop-b.b c.loop-b-test.true in
+    omega arith
 
 pub bounds-freqs0-n : goal.bounds-freqs0-n
 bounds-freqs0-n c =
     let a = c.args in
-    let h = index_below (3 * a.np) a.bands.now (omega (arith, c.requires.sizes.0)) c.requires.tables.3 c.loop-b.b c.loop-b-test.true in
-    omega (arith, h, c.index_at-n.ensures, plane_le (3 * a.np) c.loop-b-test.true, c.requires.sizes, c.requires.tables.0, c.requires.tables.1, c.requires.tables.2, c.requires.layout, c.loop-b.invariant.1.size, c.loop-b.invariant.2.size)
+    let h = index_below (3 * a.np) a.bands.now (omega arith) c.requires.tables.3 c.loop-b.b c.loop-b-test.true in
+    omega arith
 
 pub overflow_add-e0 : goal.overflow_add-e0
 overflow_add-e0 c =
     let a = c.args in
-    let h = index_below (3 * a.np) a.bands.now (omega (arith, c.requires.sizes.0)) c.requires.tables.3 c.loop-b.b c.loop-b-test.true in
-    omega (arith, h, c.index_at-n.ensures, plane_le (3 * a.np) c.loop-b-test.true, c.requires.sizes, c.requires.tables.0, c.requires.tables.1, c.requires.tables.2, c.requires.layout, c.loop-b.invariant.1.size, c.loop-b.invariant.2.size)
+    let h = index_below (3 * a.np) a.bands.now (omega arith) c.requires.tables.3 c.loop-b.b c.loop-b-test.true in
+    omega arith
 
 pub contract_fc3_e0-requires : goal.contract_fc3_e0-requires
 contract_fc3_e0-requires c =
     let a = c.args in
-    let h = index_below (3 * a.np) a.bands.now (omega (arith, c.requires.sizes.0)) c.requires.tables.3 c.loop-b.b c.loop-b-test.true in
-    omega (arith, h, c.index_at-n.ensures, plane_le (3 * a.np) c.loop-b-test.true, c.requires.sizes, c.requires.tables.0, c.requires.tables.1, c.requires.tables.2, c.requires.layout, c.loop-b.invariant.1.size, c.loop-b.invariant.2.size)
+    let h = index_below (3 * a.np) a.bands.now (omega arith) c.requires.tables.3 c.loop-b.b c.loop-b-test.true in
+    omega arith
 
 pub loop-b-preserved : goal.loop-b-preserved
 loop-b-preserved c =
