@@ -15,11 +15,6 @@ use Rattle.refusals.proofs.phases.legs_phases_ok.Given as goal
 abbrev pub invariant-loop-i : goal.invariant-loop-i
 invariant-loop-i l = (l.i ≤ l.count) × (l.good ≡ l.initial.good && every_below (vectors_fine l.vectors l.q0 l.q1 l.q2 l.start) l.i)
 
-abbrev pub decreases-loop-i : goal.decreases-loop-i
-decreases-loop-i l = l.count - l.i
 
 abbrev pub invariant-loop-n : goal.invariant-loop-n
 invariant-loop-n l = (l.n ≤ l.entries) × (l.good ≡ every_below (entry_fine l.vectors l.q0 l.q1 l.q2 l.multiplicity) l.n)
-
-abbrev pub decreases-loop-n : goal.decreases-loop-n
-decreases-loop-n l = l.entries - l.n

@@ -14,6 +14,3 @@ abbrev pub invariant-loop-t : goal.invariant-loop-t
 invariant-loop-t l =
     (l.t ≤ l.list)
     × (every_below (triplet_fine l.atoms l.supercell l.symmetry (record { mesh = l.mesh; matrix = l.matrix; addresses = l.addresses }) l.vectors l.multiplicity l.p2s l.triplets) l.t ≡ true)
-
-abbrev pub decreases-loop-t : goal.decreases-loop-t
-decreases-loop-t l = l.list - l.t

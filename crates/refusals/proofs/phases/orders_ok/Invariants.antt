@@ -15,6 +15,3 @@ use Rattle.refusals.proofs.phases.orders_ok.Given as goal
 
 abbrev pub invariant-loop-o : goal.invariant-loop-o
 invariant-loop-o l = (l.o ≤ l.count) × (every_below (order_fine l.atoms l.vectors l.multiplicity l.p2s (record { leg0 = get_or l.q 0 []; leg1 = get_or l.q 1 []; leg2 = get_or l.q 2 [] })) l.o ≡ true)
-
-abbrev pub decreases-loop-o : goal.decreases-loop-o
-decreases-loop-o l = l.count - l.o

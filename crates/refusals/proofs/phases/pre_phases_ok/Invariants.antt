@@ -20,6 +20,3 @@ use Rattle.refusals.proofs.phases.pre_phases_ok.Given as goal
 
 abbrev pub invariant-loop-i : goal.invariant-loop-i
 invariant-loop-i l = (l.i ≤ l.atoms) × (every_below (atom_fine l.atoms l.vectors l.multiplicity l.p2s (record { leg0 = l.q0; leg1 = l.q1; leg2 = l.q2 })) l.i ≡ true)
-
-abbrev pub decreases-loop-i : goal.decreases-loop-i
-decreases-loop-i l = l.atoms - l.i
