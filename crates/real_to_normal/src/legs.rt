@@ -80,12 +80,12 @@ pub fn prepare(
     g1: usize,
     g2: usize,
 )
-    requires np_bound { (np ≤ 1000)
+    requires sizes { (np ≤ 1000)
         × (ns ≤ 1000)
         × (pre_at np ns ≤ length w.old)
         × (np ≤ length masses.now)
         × Ranged vectors.now multiplicity.now (ns * np) }
-    requires np_in_bounds { (2 * ((g0 + 1) * (3 * np * (3 * np))) ≤ length eigenvectors.now)
+    requires points { (2 * ((g0 + 1) * (3 * np * (3 * np))) ≤ length eigenvectors.now)
         × (2 * ((g1 + 1) * (3 * np * (3 * np))) ≤ length eigenvectors.now)
         × (2 * ((g2 + 1) * (3 * np * (3 * np))) ≤ length eigenvectors.now) }
     ensures { Prepared w.new np ns masses.now eigenvectors.now vectors.now

@@ -60,7 +60,7 @@ pub fn order_constants(
     np: usize,
     ns: usize,
 )
-    requires np_bound { (np ≤ 256)
+    requires sizes { (np ≤ 256)
         × (ns ≤ 256)
         × (x0 < 3)
         × (x1 < 3)
@@ -68,7 +68,7 @@ pub fn order_constants(
         × (scratch_at np ns ≤ length w.old)
         × Anchored vectors.now multiplicity.now p2s.now np
         × Shaped np ns (forces_of form p2s.now s2p.now shortest.now nonzero.now constants.now) }
-    requires by_index { (x : ℕ) → x < 3
+    requires factors { (x : ℕ) → x < 3
         → numbers_in w.old (factors_at np ns x) (np * ns) (np * ns)
         ≡ phase_factors np ns vectors.now multiplicity.now (leg (record { leg0 = q0.now; leg1 = q1.now; leg2 = q2.now }) x) }
     ensures { (constants_in w.new (constants_at np ns) np

@@ -42,16 +42,16 @@ pub fn real_to_normal(
     ns: usize,
     cutoff: f64,
 )
-    requires le_np { (1 ≤ np)
+    requires sizes { (1 ≤ np)
         × (np ≤ 256)
         × (ns ≤ 256)
         × (end_at np ns ≤ length w.old)
         × Anchored vectors.now multiplicity.now p2s.now np
         × Shaped np ns (forces_of form p2s.now s2p.now shortest.now nonzero.now constants.now) }
-    requires by_index { (x : ℕ) → x < 3
+    requires factors { (x : ℕ) → x < 3
         → numbers_in w.old (factors_at np ns x) (np * ns) (np * ns)
         ≡ phase_factors np ns vectors.now multiplicity.now (leg (record { leg0 = q0.now; leg1 = q1.now; leg2 = q2.now }) x) }
-    requires np_in_bounds { ((g0 + 1) * (3 * np) ≤ length frequencies.now)
+    requires slots { ((g0 + 1) * (3 * np) ≤ length frequencies.now)
         × ((g1 + 1) * (3 * np) ≤ length frequencies.now)
         × ((g2 + 1) * (3 * np) ≤ length frequencies.now)
         × (length out.old ≡ length bands.now * (3 * np) * (3 * np))

@@ -47,18 +47,18 @@ fn slots_of(
     ns: usize,
     cutoff: f64,
 )
-    requires le_np { (1 ≤ np)
+    requires sizes { (1 ≤ np)
         × (np ≤ 256)
         × (ns ≤ 256)
         × (end_at np ns ≤ length work.old)
         × Anchored vectors.now multiplicity.now p2s.now np
         × Ranged vectors.now multiplicity.now (ns * np)
         × Shaped np ns (forces_of form p2s.now s2p.now shortest.now nonzero.now constants.now) }
-    requires np_in_bounds { (np ≤ length masses.now)
+    requires columns { (np ≤ length masses.now)
         × (2 * ((g0 + 1) * (3 * np * (3 * np))) ≤ length eigenvectors.now)
         × (2 * ((g1 + 1) * (3 * np * (3 * np))) ≤ length eigenvectors.now)
         × (2 * ((g2 + 1) * (3 * np * (3 * np))) ≤ length eigenvectors.now) }
-    requires np_in_bounds_2 { ((g0 + 1) * (3 * np) ≤ length frequencies.now)
+    requires slots { ((g0 + 1) * (3 * np) ≤ length frequencies.now)
         × ((g1 + 1) * (3 * np) ≤ length frequencies.now)
         × ((g2 + 1) * (3 * np) ≤ length frequencies.now)
         × (length strengths.old ≡ length bands.now * (3 * np) * (3 * np))
@@ -171,7 +171,7 @@ pub fn work_triplet(
     work: &mut [f64],
 )
     ghost s: { TripletSet }
-    requires s_value { s ≡ record {
+    requires whole { s ≡ record {
       tables = record {
         measures = m;
         settings = settings;
@@ -198,7 +198,7 @@ pub fn work_triplet(
       strengths = strengths.old;
       work = work.old;
     } }
-    requires s_value_2 { triplet_refusal s ≡ 0 }
+    requires accepted { triplet_refusal s ≡ 0 }
     ensures { (strengths.new ≡ Interaction.strengths (of_triplet s) s.strengths) × (work.new ≡ cleared m s.work) }
 {
     let np = m.atoms;
