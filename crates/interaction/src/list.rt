@@ -49,8 +49,8 @@ fn work_list(
     work: &mut [f64],
 )
     ghost s: { Sets.ListSet }
-    requires slots_value { slots ≡ Sets.slots m }
-    requires s_value { s ≡ record {
+    requires sized { slots ≡ Sets.slots m }
+    requires whole { s ≡ record {
       tables = record {
         measures = m;
         settings = settings;
@@ -78,7 +78,7 @@ fn work_list(
       strengths = strengths.old;
       work = work.old;
     } }
-    requires s_value_2 { list_refusal s ≡ 0 }
+    requires accepted { list_refusal s ≡ 0 }
     ensures { (strengths.new ≡ list_strengths s) × (work.new ≡ cleared m s.work) }
 {
     for t in 0..list {

@@ -15,7 +15,28 @@ use Rattle.interaction.proofs.ListLaws.{Worked, worked_none, work_size, strength
 use Rattle.interaction.proofs.list.work_list.Given as goal
 
 abbrev pub invariant-loop-t : goal.invariant-loop-t
-invariant-loop-t l = (l.t ≤ l.list) × Worked (set_of l.m l.settings l.form l.symmetry l.mesh l.matrix l.list l.triplets l.addresses l.vectors l.multiplicity l.p2s l.s2p l.masses l.bands l.frequencies l.eigenvectors l.shortest l.nonzero l.constants l.flags l.initial.strengths l.initial.work) l.t l.strengths l.work
+invariant-loop-t g l = (l.t ≤ l.list) × Worked g.s l.t l.strengths l.work
 
-abbrev pub decreases-loop-t : goal.decreases-loop-t
-decreases-loop-t l = l.list - l.t
+-- of each triplet the set is its share of what is handed in
+abbrev pub ghost-work_triplet : goal.ghost-work_triplet
+ghost-work_triplet g a =
+    record {
+      tables = record {
+        measures = a.m;
+        settings = a.settings;
+        symmetry = a.symmetry;
+        crystal = record {
+          vectors = a.vectors.now;
+          multiplicity = a.multiplicity.now;
+          masses = a.masses.now;
+          forces = record { form = a.form; p2s = a.p2s.now; s2p = a.s2p.now; shortest = a.shortest.now; nonzero = a.nonzero.now; constants = a.constants.now };
+        };
+        grid = record { mesh = a.mesh; matrix = a.matrix; addresses = a.addresses.now };
+        bands = a.bands.now;
+        phonons = record { frequencies = a.frequencies.now; eigenvectors = a.eigenvectors.now };
+      };
+      triplet = a.triplet;
+      flags = a.flags.now;
+      strengths = a.strengths.now;
+      work = a.work.now;
+    }
