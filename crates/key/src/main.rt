@@ -1,19 +1,35 @@
 // Reads a carton file from standard input and prints its strengths and totals, or `refused` and a number.
 #![tactic(auto)]
 
-use libc::{STDERR_FILENO, STDIN_FILENO, STDOUT_FILENO};
+ghost use Rattle.io.specs.Counts.{IsPrefixLen};
 
-// A key that could not be written whole, as to a full disk, is told of on standard error: the language has no exit
-// status.
-fn main() {
+use std::io;
+use std::io::{Read, Write};
+
+// Reads until the buffer is full, the input ends or a read fails; how many bytes stand at the buffer's start.
+fn read_full<R: Read>(from: &mut R, buf: &mut [u8]) -> usize
+    ensures { IsPrefixLen result buf.new }
+{
+    let mut done = 0;
+    while done < buf.len() {
+        let n = from.read(&mut buf[done..]).unwrap_or(0);
+        if n == 0 {
+            break;
+        }
+        done += n;
+    }
+    done
+}
+
+// A key that could not be written whole, as to a full disk, is told of on standard error.
+fn main(rt: HostRuntime) -> io::Result<()> {
     let mut input = answer::input_buffer();
-    let n = io::read_full(STDIN_FILENO, &mut input);
+    let n = read_full(&mut rt.stdin(), &mut input);
     let mut text = answer::text_buffer();
     let k = answer::answer(&input[..n], &mut text);
-    if !io::write_all(STDOUT_FILENO, &text[..k]) {
-        io::write_all(
-            STDERR_FILENO,
-            b"key: the answer could not be written whole\n",
-        );
+    if rt.stdout().write_all(&text[..k]).is_err() {
+        rt.stderr()
+            .write_all(b"key: the answer could not be written whole\n")?;
     }
+    Ok(())
 }

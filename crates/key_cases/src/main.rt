@@ -14,11 +14,11 @@ ghost use Rattle.key_cases.specs.Cells as Cells;
 ghost use Rattle.key_cases.specs.Left.{Left, run_of, expected_of};
 
 use common::bits::bits_of;
-use libc::STDOUT_FILENO;
 use phonon::{
     Anchoring, Answer, Bath, Form, Measures, Settings, Symmetry, TotalsMeasures, Weights,
 };
 use refusals::number_of;
+use std::io;
 
 // ---- the table
 
@@ -506,15 +506,16 @@ fn same(found: &[f64], expected: &[f64]) -> bool
 }
 
 // Writes a word if the part that it names differs.
-fn print_difference(agrees: bool, word: &[u8]) {
+fn print_difference(rt: &impl Print, agrees: bool, word: &str) -> io::Result<()> {
     if !agrees {
-        io::write_all(STDOUT_FILENO, word);
+        print!(rt; "{word}")?;
     }
+    Ok(())
 }
 
 // Runs a case through a door, writes the answer and what differs, and returns whether nothing does. Every buffer holds -1.0
 // before the call.
-fn passes(door: Door, name: &[u8], c: Case) -> bool
+fn passes(rt: &impl Print, door: Door, name: &str, c: Case) -> io::Result<bool>
     requires { Cells.Sized c }
 {
     let mut strengths = [-1.0; 54];
@@ -536,42 +537,39 @@ fn passes(door: Door, name: &[u8], c: Case) -> bool
     let totals_agree = same(&totals, &expected_totals);
     let work_agrees = same(&work, &expected_work);
     let good = answer_agrees & strengths_agree & totals_agree & work_agrees;
-    io::write_all(STDOUT_FILENO, name);
-    io::print_decimal(STDOUT_FILENO, number as u64);
-    print_difference(answer_agrees, b" answer");
-    print_difference(strengths_agree, b" strengths");
-    print_difference(totals_agree, b" totals");
-    print_difference(work_agrees, b" work");
+    print!(rt; "{name}{number}")?;
+    print_difference(rt, answer_agrees, " answer")?;
+    print_difference(rt, strengths_agree, " strengths")?;
+    print_difference(rt, totals_agree, " totals")?;
+    print_difference(rt, work_agrees, " work")?;
     if good {
-        io::write_all(STDOUT_FILENO, b" ok");
+        print!(rt; " ok")?;
     } else {
-        io::write_all(STDOUT_FILENO, b" differ");
+        print!(rt; " differ")?;
     }
-    good
+    Ok(good)
 }
 
 // Case Mn through every door, on a line.
-fn case_passes(n: usize) -> bool
+fn case_passes(rt: &impl Print, n: usize) -> io::Result<bool>
     requires { (1 ≤ n) × (n ≤ 11) }
 {
     let c = case_of(n);
-    io::write_all(STDOUT_FILENO, b"M");
-    io::print_decimal(STDOUT_FILENO, n as u64);
-    let triplet = passes(Door::Triplet, b" triplet ", c);
-    let list = passes(Door::List, b", list ", c);
-    let totals = passes(Door::Totals, b", totals ", c);
-    let joined = passes(Door::Joined, b", joined ", c);
-    io::write_all(STDOUT_FILENO, b"\n");
-    triplet & list & totals & joined
+    print!(rt; "M{n}")?;
+    let triplet = passes(rt, Door::Triplet, " triplet ", c)?;
+    let list = passes(rt, Door::List, ", list ", c)?;
+    let totals = passes(rt, Door::Totals, ", totals ", c)?;
+    let joined = passes(rt, Door::Joined, ", joined ", c)?;
+    println!(rt;)?;
+    Ok(triplet & list & totals & joined)
 }
 
-fn main() {
+fn main(rt: HostRuntime) -> io::Result<()> {
     let mut passed = 0u64;
     for n in 1..12 {
-        if case_passes(n) {
-            passed = std::num::wrapping_add_u64(passed, 1);
+        if case_passes(&rt, n)? {
+            passed = passed.wrapping_add(1);
         }
     }
-    io::print_decimal(STDOUT_FILENO, passed);
-    io::write_all(STDOUT_FILENO, b" of 11 passed\n");
+    println!(rt; "{passed} of 11 passed")
 }

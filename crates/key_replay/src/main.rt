@@ -2,12 +2,12 @@
 // little-endian, and its bytes, of which only the first 49,153 matter and are sent.
 #![tactic(auto)]
 
-use libc::{STDIN_FILENO, STDOUT_FILENO};
+use std::io::{Read, Write};
 
 // Reads one carton and writes its answer; false at the end of the stream.
-fn next_carton() -> bool {
+fn next_carton<R: Read, W: Write>(from: &mut R, to: &mut W) -> bool {
     let mut size = [0u8; 4];
-    if io::read_full(STDIN_FILENO, &mut size) < 4 {
+    if from.read_exact(&mut size).is_err() {
         return false;
     }
     let n = carton::four_at(&size, 0) as usize;
@@ -15,19 +15,20 @@ fn next_carton() -> bool {
     if input.len() < n {
         return false;
     }
-    let got = io::read_full(STDIN_FILENO, &mut input[..n]);
-    if got < n {
+    if from.read_exact(&mut input[..n]).is_err() {
         return false;
     }
     let mut text = answer::text_buffer();
     let k = answer::answer(&input[..n], &mut text);
-    io::write_all(STDOUT_FILENO, &text[..k])
+    to.write_all(&text[..k]).is_ok()
 }
 
 // The loop counts its turns down from a number that no run uses up.
-fn main() {
+fn main(rt: HostRuntime) {
+    let mut from = rt.stdin();
+    let mut to = rt.stdout();
     let mut turns = u64::MAX;
-    while turns > 0 && next_carton() {
+    while turns > 0 && next_carton(&mut from, &mut to) {
         turns -= 1;
     }
 }
