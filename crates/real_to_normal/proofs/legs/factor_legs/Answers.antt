@@ -1,6 +1,5 @@
 -- One call, which writes the stretches of all three legs.
 use mathlib.Core.List.{List}
-use borrow.Author.Rules.{rules}
 use lib.Ieee.{Float}
 use Rattle.phonon.specs.Sets.{Legs}
 use Rattle.real_to_normal.proofs.LegLaws.{legs_factored, factored_outside}

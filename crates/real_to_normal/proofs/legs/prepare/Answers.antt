@@ -6,7 +6,6 @@ use Prim.Native.Nat.{ℕ, ◌≤◌}
 use lib.ListN.{length}
 use Rattle.real_to_normal.proofs.LegLaws.{prepared, prepared_outside}
 use native.Mathlib.Omega.{arith}
-use borrow.Author.Rules.{rules}
 use Rattle.real_to_normal.proofs.legs.prepare.Goals as goal
 
 pub returns : goal.returns

@@ -3,7 +3,6 @@ use Prim.Native.Nat.{◌≤◌}
 use lib.ListN.{length}
 use Rattle.real_to_normal.proofs.LegLaws.{legs_scaled, legs_outside}
 use native.Mathlib.Omega.{arith}
-use borrow.Author.Rules.{rules}
 use Rattle.real_to_normal.proofs.legs.scale_legs.Goals as goal
 
 pub returns : goal.returns

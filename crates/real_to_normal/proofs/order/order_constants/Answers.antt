@@ -2,9 +2,8 @@
 use mathlib.Core.List.{List}
 use lib.Ieee.{Float}
 use Rattle.phonon.specs.Sets.{Legs, Forces}
-use Rattle.real_to_normal.proofs.PlaceLaws.{factors_end, pre_end, pre_fits, region_fits}
+use Rattle.real_to_normal.proofs.PlaceLaws.{factors_end, pre_end, region_fits}
 use Rattle.real_to_normal.proofs.OrderLaws.{order_is, order_outside}
-use borrow.Author.Rules.{rules}
 use Rattle.real_to_normal.proofs.order.order_constants.Goals as goal
 
 pub real_to_reciprocal-requires : goal.real_to_reciprocal-requires

@@ -2,9 +2,8 @@
 use Prim.Native.Nat.{ℕ}
 use Rattle.phonon.specs.Sets.{Legs}
 use Rattle.real_to_normal.specs.Work.{constants_at}
-use Rattle.real_to_normal.proofs.PlaceLaws.{few, same_le, first, second, third, columns_end, columns_pre, constants_end, constants_fit, scratch_fits, outside_scratch}
+use Rattle.real_to_normal.proofs.PlaceLaws.{columns_pre, outside_scratch}
 use Rattle.real_to_normal.proofs.SlotLaws.{plain_is}
-use borrow.Author.Rules.{rules}
 use Rattle.real_to_normal.proofs.plain.real_to_normal.Goals as goal
 
 pub returns : goal.returns

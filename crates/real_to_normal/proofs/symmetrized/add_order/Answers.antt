@@ -3,9 +3,8 @@ use Prim.Native.Nat.{ℕ}
 use Rattle.phonon.specs.Sets.{Legs}
 use Rattle.reciprocal_to_normal.proofs.ListingLaws.{outside_above}
 use Rattle.real_to_normal.specs.Work.{constants_at, scratch_at, listing_at}
-use Rattle.real_to_normal.proofs.PlaceLaws.{few, same_le, columns_end, columns_pre, constants_end, scratch_end, constants_fit, listing_fits, outside_listing}
+use Rattle.real_to_normal.proofs.PlaceLaws.{columns_end, columns_pre, constants_end, scratch_end, listing_fits, outside_listing}
 use Rattle.real_to_normal.proofs.SlotLaws.{order_gathered}
-use borrow.Author.Rules.{rules}
 use Rattle.real_to_normal.proofs.symmetrized.add_order.Goals as goal
 
 pub full_strengths-requires-clause-layout : goal.full_strengths-requires-clause-layout

@@ -7,15 +7,11 @@ use Rattle.planes.proofs.LegOrders.{orders_lt}
 use Rattle.planes.proofs.ClearLaws.{clear_all}
 use Rattle.real_to_normal.proofs.SixLaws.{six_turn, six_none}
 use mathlib.Core.Path.{◌≡◌, refl, sym, ap, ◌∙◌, subst}
-use mathlib.Core.Bool.{cond}
-use Prim.Native.Nat.{ℕ, ◌-◌, ◌*◌, ◌<◌, ◌≤◌}
+use Prim.Native.Nat.{ℕ, ◌*◌, ◌<◌}
 use lib.ListN.{length, get_or}
 use lib.Ieee.{Float}
 use mathlib.Core.List.{List}
-use Rattle.phonon.specs.Number.{f0, flagged, fold, table}
 use Rattle.phonon.specs.Sets.{Forces, Legs}
-use Rattle.planes.specs.Region.{SameOutside}
-use Rattle.real_to_normal.specs.Work.{pre_at, end_at, sixth_of}
 use native.Mathlib.Omega.{arith}
 use Rattle.real_to_normal.proofs.symmetrized.real_to_normal_sym_q.Goals as goal
 

@@ -3,9 +3,8 @@ use Prim.Native.Nat.{ℕ}
 use mathlib.Core.List.{List}
 use lib.Ieee.{Float}
 use Rattle.phonon.specs.Sets.{Legs, Forces}
-use Rattle.real_to_normal.proofs.PlaceLaws.{few, legs_fit, listing_fits, outside_legs}
+use Rattle.real_to_normal.proofs.PlaceLaws.{outside_legs}
 use Rattle.real_to_normal.proofs.TripletLaws.{off_values, six_values}
-use borrow.Author.Rules.{rules}
 use Rattle.real_to_normal.proofs.triplet.slots_of.Goals as goal
 
 pub returns-in-Off : goal.returns-in-Off

@@ -1,7 +1,6 @@
 -- The tests of the triplet and those of the bath each gave a number; the lower is the refusal.
 use native.Mathlib.Omega.{arith}
 use mathlib.Core.Path.{refl, sym, ◌∙◌}
-use borrow.Author.Rules.{rules}
 use Rattle.phonon.specs.Refusal.{triplet_refusal, joined_refusal}
 use Rattle.phonon.proofs.Lowest.{stop, join}
 use Rattle.checks.proofs.MeasureLaws.{within_told, beyond_told}

@@ -1,13 +1,9 @@
 -- Every triplet before number t is fine.
-use Prim.Native.Nat.{ℕ, ◌+◌, ◌-◌, ◌*◌, ◌≤◌}
-use native.Mathlib.Omega.{arith}
-use mathlib.Core.Path.{◌≡◌, sym}
-use mathlib.Core.Bool.{Bool, true}
+use Prim.Native.Nat.{◌≤◌}
+use mathlib.Core.Path.{◌≡◌}
+use mathlib.Core.Bool.{true}
 use Rattle.phonon.specs.Tests.{every_below}
-use Rattle.checks.proofs.Laws.{told_good, told_bad, every_bad}
 use Rattle.refusals.specs.Phases.{triplet_fine}
-use Rattle.phonon.proofs.Accepted.{every_none, every_next}
-use Rattle.refusals.proofs.PhaseLaws.{part_located}
 use Rattle.refusals.proofs.phases.list_phases_ok.Given as goal
 
 abbrev pub invariant-loop-t : goal.invariant-loop-t

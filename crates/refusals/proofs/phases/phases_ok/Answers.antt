@@ -1,7 +1,5 @@
 -- The calls told the tests of the legs and of their orders, at the q of the three points.
-use native.Mathlib.Omega.{arith}
 use Rattle.refusals.proofs.PhaseLaws.{phases_told}
-use borrow.Author.Rules.{rules}
 use Rattle.refusals.proofs.phases.phases_ok.Goals as goal
 
 pub returns : goal.returns

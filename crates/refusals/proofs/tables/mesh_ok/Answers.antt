@@ -2,7 +2,6 @@
 use mathlib.Core.Path.{refl}
 use Rattle.phonon.specs.Tests.{all_true, all_true_after}
 use Rattle.phonon.specs.Refusal.{mesh_ok}
-use borrow.Author.Rules.{rules}
 use Rattle.refusals.proofs.tables.mesh_ok.Goals as goal
 
 pub returns : goal.returns

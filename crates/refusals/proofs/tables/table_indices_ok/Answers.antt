@@ -7,7 +7,6 @@ use mir.Syntax.{w64}
 use Rattle.phonon.specs.Tests.{all_true, all_true_after}
 use Rattle.phonon.proofs.Accepted.{measured_facts}
 use Rattle.phonon.specs.Refusal.{indices_ok}
-use borrow.Author.Rules.{rules}
 use Rattle.refusals.proofs.tables.table_indices_ok.Goals as goal
 
 pub overflow_sub-last_atom : goal.overflow_sub-last_atom
