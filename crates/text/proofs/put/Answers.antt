@@ -1,12 +1,11 @@
 -- After i turns i bytes are copied.
 use native.Mathlib.Numerals.{add-one}
 use native.Mathlib.Omega.{arith}
-use Prim.Native.Nat.{ℕ, ◌≤◌, ◌-◌, ◌+◌}
-use mathlib.Core.Path.{◌≡◌, ◌∙◌, ap}
+use Prim.Native.Nat.{ℕ, ◌+◌}
+use mathlib.Core.Path.{◌∙◌, ap}
 use mathlib.Core.List.{List}
-use lib.ListN.{length, get_or, set}
-use lib.Seq.{paste, paste-zero, paste-suc, length-paste}
-use Rattle.text.proofs.Laws.{printed_pasted}
+use lib.ListN.{get_or, set}
+use lib.Seq.{paste-suc}
 use Rattle.text.proofs.put.Goals as goal
 
 pub loop-i-preserved : goal.loop-i-preserved

@@ -1,6 +1,5 @@
 -- Its parts in turn; the print is no longer than its room.
 use native.Mathlib.Omega.{arith}
-use borrow.Author.Rules.{rules}
 use lib.ListN.{length-append}
 use Rattle.text.specs.Lines.{accepted_text}
 use Rattle.text.proofs.Laws.{printed_then}

@@ -1,7 +1,6 @@
 -- The digits are those of the bits, and the line feed follows them.
 use native.Mathlib.Omega.{arith}
 use mathlib.Core.Path.{ap}
-use borrow.Author.Rules.{rules}
 use lib.ListN.{length}
 use Rattle.text.specs.Lines.{bits_line}
 use Rattle.text.proofs.Laws.{printed_same, printed_then}

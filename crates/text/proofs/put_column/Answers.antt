@@ -1,9 +1,6 @@
 -- The slots of each j in turn.
 use native.Mathlib.Omega.{arith}
-use Prim.Native.Nat.{◌≤◌, ◌-◌}
 use mathlib.Core.Path.{◌≡◌, refl}
-use lib.ListN.{length}
-use Rattle.text.specs.Printed.{Printed}
 use Rattle.text.specs.Lines.{lines_below, slot_lines, column_lines}
 use Rattle.text.proofs.Laws.{lines_more, room_line, printed_none}
 use Rattle.text.proofs.put_column.Goals as goal

@@ -1,11 +1,9 @@
 -- The slots of each j in turn.
-use native.Mathlib.Omega.{arith}
 use Prim.Native.Nat.{◌≤◌, ◌-◌}
-use mathlib.Core.Path.{◌≡◌, refl}
+use mathlib.Core.Path.{◌≡◌}
 use lib.ListN.{length}
 use Rattle.text.specs.Printed.{Printed}
-use Rattle.text.specs.Lines.{lines_below, slot_lines, column_lines}
-use Rattle.text.proofs.Laws.{lines_more, room_line, printed_none}
+use Rattle.text.specs.Lines.{lines_below, slot_lines}
 use Rattle.text.proofs.put_column.Given as goal
 
 abbrev pub invariant-loop-j : goal.invariant-loop-j

@@ -1,11 +1,9 @@
 -- The columns of each k in turn.
-use native.Mathlib.Omega.{arith}
 use Prim.Native.Nat.{◌≤◌, ◌-◌}
-use mathlib.Core.Path.{◌≡◌, refl}
+use mathlib.Core.Path.{◌≡◌}
 use lib.ListN.{length}
 use Rattle.text.specs.Printed.{Printed}
-use Rattle.text.specs.Lines.{lines_below, column_lines, first_band_lines}
-use Rattle.text.proofs.Laws.{lines_more, room_line, printed_none}
+use Rattle.text.specs.Lines.{lines_below, column_lines}
 use Rattle.text.proofs.put_first_band.Given as goal
 
 abbrev pub invariant-loop-k : goal.invariant-loop-k

@@ -1,7 +1,6 @@
 -- The digits are the number's, and the byte follows them.
 use native.Mathlib.Omega.{arith}
 use mathlib.Core.Path.{ap}
-use borrow.Author.Rules.{rules}
 use lib.ListN.{length, length-append}
 use Rattle.text.specs.Lines.{number_then}
 use Rattle.text.proofs.Laws.{printed_same, printed_then}

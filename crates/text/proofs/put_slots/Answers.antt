@@ -1,9 +1,6 @@
 -- The planes of each b in turn.
 use native.Mathlib.Omega.{arith}
-use Prim.Native.Nat.{◌≤◌, ◌-◌}
 use mathlib.Core.Path.{◌≡◌, refl}
-use lib.ListN.{length}
-use Rattle.text.specs.Printed.{Printed}
 use Rattle.text.specs.Lines.{lines_below, first_band_lines, slots_text}
 use Rattle.text.proofs.Laws.{lines_more, room_line, printed_none, bands_below}
 use Rattle.text.proofs.put_slots.Goals as goal

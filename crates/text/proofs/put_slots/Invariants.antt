@@ -1,11 +1,9 @@
 -- The planes of each b in turn.
-use native.Mathlib.Omega.{arith}
 use Prim.Native.Nat.{◌≤◌, ◌-◌}
-use mathlib.Core.Path.{◌≡◌, refl}
+use mathlib.Core.Path.{◌≡◌}
 use lib.ListN.{length}
 use Rattle.text.specs.Printed.{Printed}
-use Rattle.text.specs.Lines.{lines_below, first_band_lines, slots_text}
-use Rattle.text.proofs.Laws.{lines_more, room_line, printed_none, bands_below}
+use Rattle.text.specs.Lines.{lines_below, first_band_lines}
 use Rattle.text.proofs.put_slots.Given as goal
 
 abbrev pub invariant-loop-b : goal.invariant-loop-b

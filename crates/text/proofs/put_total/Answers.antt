@@ -1,6 +1,5 @@
 -- Its parts in turn.
 use native.Mathlib.Omega.{arith}
-use borrow.Author.Rules.{rules}
 use lib.ListN.{length-append}
 use Rattle.text.specs.Lines.{total_line}
 use Rattle.text.proofs.Laws.{printed_then}

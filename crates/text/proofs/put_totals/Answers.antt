@@ -1,10 +1,8 @@
 -- The totals of each b in turn.
 use native.Mathlib.Omega.{arith}
-use Prim.Native.Nat.{◌≤◌, ◌-◌}
 use mathlib.Core.Path.{◌≡◌, refl}
 use lib.ListN.{length}
 use Rattle.phonon.specs.Number.{at}
-use Rattle.text.specs.Printed.{Printed}
 use Rattle.text.specs.Lines.{lines_below, total_line, totals_text}
 use Rattle.text.proofs.Laws.{lines_more, room_line, printed_none}
 use Rattle.text.proofs.put_totals.Goals as goal

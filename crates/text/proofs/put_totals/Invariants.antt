@@ -1,12 +1,10 @@
 -- The totals of each b in turn.
-use native.Mathlib.Omega.{arith}
 use Prim.Native.Nat.{◌≤◌, ◌-◌}
-use mathlib.Core.Path.{◌≡◌, refl}
+use mathlib.Core.Path.{◌≡◌}
 use lib.ListN.{length}
 use Rattle.phonon.specs.Number.{at}
 use Rattle.text.specs.Printed.{Printed}
-use Rattle.text.specs.Lines.{lines_below, total_line, totals_text}
-use Rattle.text.proofs.Laws.{lines_more, room_line, printed_none}
+use Rattle.text.specs.Lines.{lines_below, total_line}
 use Rattle.text.proofs.put_totals.Given as goal
 
 abbrev pub invariant-loop-b : goal.invariant-loop-b

@@ -1,8 +1,7 @@
 -- A slot that is not flagged has its line; a flagged one has none.
-use native.Mathlib.Omega.{arith}
 use borrow.Author.Tests.{eq-eqb, ne_eqb}
 use Rattle.text.specs.Lines.{slot_lines}
-use Rattle.text.proofs.Laws.{slot_below, printed_none}
+use Rattle.text.proofs.Laws.{printed_none}
 use Rattle.text.proofs.put_unflagged.Goals as goal
 
 pub put_slot-requires : goal.put_slot-requires
