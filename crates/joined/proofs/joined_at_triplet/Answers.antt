@@ -58,7 +58,7 @@ returns-in_default c =
     refused _ _ _ _ _ (c.check_joined-checked.ensures c.args.strengths.now c.args.totals.now c.args.work.now refl refl refl) c.in_default.is c.answer_of.ensures
 
 pub work_triplet-requires : goal.work_triplet-requires
-work_triplet-requires c = let k = (goal.at.work_triplet-requires c).In-Good in (refl, joined_share (set k) (passed k))
+work_triplet-requires c = let k = (goal.at.work_triplet-requires c).In-Good in (refl {a = triplet_of (set k)}, joined_share (set k) (passed k))
 
 pub overflow_mul-m : goal.overflow_mul-m
 overflow_mul-m c = let k = (goal.at.overflow_mul-m c).In-Good in omega (arith, few (set k) (passed k))
