@@ -25,7 +25,7 @@ pub points_of-requires : goal.points_of-requires
 points_of-requires g c =
     let h = c.requires in
     let e = rw h.1.0 at h.1.1 in
-    points_fit _ e c.loop-t.t c.loop-t-test.true
+    omega (arith, points_fit _ e c.loop-t.t c.loop-t-test.true)
 
 pub slice_bounds-work_triplet-end : goal.slice_bounds-work_triplet-end
 slice_bounds-work_triplet-end g c =
