@@ -1,5 +1,5 @@
 -- Each door's copies, one behind the other; a refused call writes nothing.
-use Rattle.std.proofs.Common.{◌*◌, List, refl, ap, ◌∙◌, rules}
+use Rattle.std.proofs.Common.{◌*◌, List, refl, ap, ◌∙◌}
 use lib.Ieee.{Float}
 use lib.Seq.{paste}
 use Rattle.key_cases.specs.declared.Door.TheVariants.{Triplet, Totals, Joined}

@@ -1,5 +1,5 @@
 -- By the four doors.
-use Rattle.std.proofs.Common.{refl, rules, eq-eqb, ne_eqb}
+use Rattle.std.proofs.Common.{refl, eq-eqb, ne_eqb}
 use Rattle.key_cases.specs.Cells.{number_at, joined_number}
 use Rattle.key_cases.proofs.expected_number.Goals as goal
 

@@ -1,5 +1,5 @@
 -- Each part that is lent lies within its array: F is at most 3. What a door leaves of it stands before the rest.
-use Rattle.std.proofs.Common.{◌*◌, drop, sym, ap, ◌∙◌, arith, length-take-le, rules}
+use Rattle.std.proofs.Common.{◌*◌, drop, sym, ap, ◌∙◌}
 use Rattle.key_cases.specs.declared.Door.{Door}
 use Rattle.key_cases.specs.Left.{run_of}
 use Rattle.key_cases.proofs.LeftLaws.{strengths_left_lem, totals_left_lem, joined_left_lem}

@@ -1,7 +1,6 @@
 -- The door's outcome, of cell U with the case's change.
 use Rattle.phonon.specs.KeyCases.{cell_u}
 use Rattle.key_cases.specs.Cells.{cell_of, totals_of}
-use Rattle.std.proofs.Common.{rules}
 use Rattle.key_cases.proofs.run_totals.Goals as goal
 
 pub returns : goal.returns

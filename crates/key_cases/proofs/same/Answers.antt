@@ -1,7 +1,6 @@
 -- The numbers below i agree; bits that differ are of numbers that differ.
-use Rattle.std.proofs.Common.{◌≡◌, length, sym, refl, ap, ◌∙◌, true≢false, arith, ext_get_or, below_more}
-use lib.Ieee.{nan, binary64, to_bits}
-use Rattle.phonon.specs.Number.{at, bits}
+use Rattle.std.proofs.Common.{refl, arith, ext_get_or}
+use lib.Ieee.{nan}
 use Rattle.key_cases.proofs.same.Goals as goal
 
 pub returns : goal.returns

@@ -1,5 +1,5 @@
 -- The numbers below i agree.
-use Rattle.std.proofs.Common.{◌≡◌, ℕ, ◌<◌, length}
+use Rattle.std.proofs.Common.{◌≡◌, ℕ, ◌<◌}
 use Rattle.phonon.specs.Number.{at}
 use Rattle.key_cases.proofs.same.Given as goal
 

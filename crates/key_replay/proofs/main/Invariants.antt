@@ -1,5 +1,4 @@
 -- The measure is the number of turns that are left.
-use native.Mathlib.Omega.{arith}
 use Rattle.key_replay.proofs.main.Given as goal
 
 abbrev pub invariant-loop-turns : goal.invariant-loop-turns
