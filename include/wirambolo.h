@@ -55,7 +55,7 @@
  *     9  phase       a phase 2*pi*(q . vector) is not within -1,048,576 to 1,048,576: of the q of a leg and a
  *                    vector that multiplicity names, or of the sum of the three q (symmetrized: in any of the
  *                    six orders of the legs) and the first vector of supercell atom p2s[i] and atom 0
- *                    (phasesOk in crates/phonon/specs/Refusal.antt)
+ *                    (phases_ok in crates/phonon/specs/Refusal.antt)
  *    13  width       the width is zero (-0.0 too) or below
  *   255  unreadable  a choice is none of its enum's numbers
  *

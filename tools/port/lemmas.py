@@ -1,8 +1,8 @@
 #!/usr/bin/env python3
 """Statements of the lemmas in proofs/*.antt, a turned repository's beside this one's: usage: lemmas.py TURNED_FOLDER THIS_FOLDER
 
-A statement is the text of a signature, from the name to its first clause, with the lines `module _ ..` above it. Those that are gone or read otherwise are printed; proofs of functions
-are left out, and so is white space."""
+A statement is the text of a signature, from the name to its first clause, with the lines `module _ ..` above it. Those that are gone or read otherwise are printed; proofs of functions,
+imports and white space are left out."""
 import glob
 import os
 import re

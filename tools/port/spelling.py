@@ -1,9 +1,8 @@
 #!/usr/bin/env python3
-"""Whether a turned repository differs from the old one in spelling alone: usage: spelling.py OLD_COMMIT TURNED_FOLDER
+"""Whether the specs of a turned repository differ from the old ones in spelling alone: usage: spelling.py OLD_COMMIT TURNED_FOLDER
 
-Of each file of specs/ and each contract of src/ the words are read one by one, old beside turned, without imports, brackets of propositions and the space
-before a field. The words must be as many, and an old word must have become one and the same new word wherever it stands in the file. A new word that two old ones became
-is printed too."""
+Of each file of specs/ the words are read one by one, old beside turned. The words must be as many, and an old word must have become one and the same new word wherever it stands in the
+file. A new word that two old ones became is printed too. Not read: contracts in src/, imports, round brackets, brackets of propositions, and the space before a field."""
 import collections
 import os
 import re

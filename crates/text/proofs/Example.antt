@@ -1,4 +1,4 @@
--- Prints that are computed from the definitions: the listing order of two slots, a refusal, and a NaN. Document 01's own example is `key-u` of the
+-- Prints that are computed from the definitions: the listing order of two slots, a refusal, and a NaN. Document 01's own example is `key_u` of the
 -- crate key.
 use Prim.Native.Nat.{ℕ}
 use mathlib.Core.Path.{◌≡◌, refl}
