@@ -3,7 +3,6 @@
 
 ghost use Rattle.io.specs.Counts.{IsPrefixLen};
 
-use std::io;
 use std::io::{Read, Write};
 
 // Reads until the buffer is full, the input ends or a read fails; how many bytes stand at the buffer's start.
@@ -22,14 +21,14 @@ fn read_full<R: Read>(from: &mut R, buf: &mut [u8]) -> usize
 }
 
 // A key that could not be written whole, as to a full disk, is told of on standard error.
-fn main(rt: HostRuntime) -> io::Result<()> {
+fn main(rt: HostRuntime) {
     let mut input = answer::input_buffer();
     let n = read_full(&mut rt.stdin(), &mut input);
     let mut text = answer::text_buffer();
     let k = answer::answer(&input[..n], &mut text);
     if rt.stdout().write_all(&text[..k]).is_err() {
-        rt.stderr()
-            .write_all(b"key: the answer could not be written whole\n")?;
+        let _ = rt
+            .stderr()
+            .write_all(b"key: the answer could not be written whole\n");
     }
-    Ok(())
 }

@@ -62,7 +62,7 @@ pub float_from_bits-result : goal.float_from_bits-result
 float_from_bits-result c =
     let s = shifted (goal.at.float_from_bits-result c).Joined-e-eq0 in
     let d = digits c.if-e-eq0.m c.rounded_root-t.result s.low s.high c.rounded_root-t.ensures in
-    units_pattern c.rounded_root-t.result (c.normalised-v.result.exponent / 2 - 26) d.0 d.1 (omega (arith, c.normalised-v.ensures.bound.3))
+    units_pattern c.rounded_root-t.result _ d.0 d.1 (omega (arith, c.normalised-v.ensures.bound.3))
 
 pub returns-then-x : goal.returns-then-x
 returns-then-x c =

@@ -8,6 +8,15 @@ use Rattle.integration_weights.proofs.fill.shape_row.Goals as goal
 pub loop-k-init : goal.loop-k-init
 loop-k-init c = slots_none _ _ c.requires.0
 
+pub loop-k-preserved : goal.loop-k-preserved
+loop-k-preserved c =
+    let a = c.args in
+    let w = c.put_two.ensures in
+    row_two a.s a.x a.y a.leg.now c.loop-k.invariant c.loop-k-test.true
+    (record { one = c.shape_two-a.ensures.0; two = c.shape_two-b.ensures.0; three = c.shape_two-c.ensures.0 })
+    (record { one = c.shape_two-a.ensures.1; two = c.shape_two-b.ensures.1; three = c.shape_two-c.ensures.1 })
+    w.0 w.1 w.2
+
 pub put_two-requires : goal.put_two-requires
 put_two-requires c =
     let d = c.loop-k.invariant in
@@ -18,15 +27,6 @@ put_two-requires c =
     let two = values_good a.s a.x a.y a.leg.now (k + 1) c.requires.1 c.requires.2 c.requires.3 (c.requires.4 (k + 1) c.loop-k-test.true)
     (record { one = c.shape_two-a.ensures.1; two = c.shape_two-b.ensures.1; three = c.shape_two-c.ensures.1 }) in
     (omega (arith, c.loop-k-test.true, d.first.long), omega (arith, c.loop-k-test.true, d.second.long), omega (arith, c.loop-k-test.true, d.flags.long), one.0, one.1, one.2, two.0, two.1, two.2)
-
-pub loop-k-preserved : goal.loop-k-preserved
-loop-k-preserved c =
-    let a = c.args in
-    let w = c.put_two.ensures in
-    row_two a.s a.x a.y a.leg.now c.loop-k.invariant c.loop-k-test.true
-    (record { one = c.shape_two-a.ensures.0; two = c.shape_two-b.ensures.0; three = c.shape_two-c.ensures.0 })
-    (record { one = c.shape_two-a.ensures.1; two = c.shape_two-b.ensures.1; three = c.shape_two-c.ensures.1 })
-    w.0 w.1 w.2
 
 pub put_one-requires : goal.put_one-requires
 put_one-requires c =
