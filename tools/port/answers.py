@@ -280,7 +280,7 @@ def answers(crate_dir, old_dir, names, log):
             text = d["head"] + "\n" + "\n".join(d["lines"])
             taken = re.search(r"\((\S+) : tie\.(%s)" % TOKEN, d["head"])
             place = places.get(norm(taken.group(2)), taken.group(2)) if taken else None
-            text = re.sub(r"tie\.(%s)((?: invariant-\S+| decreases-\S+)*)" % TOKEN, lambda m: places.get(norm(m.group(1)), m.group(1)), text)
+            text = re.sub(r"tie\.(%s)((?: invariant-%s| decreases-%s)*)" % (TOKEN, TOKEN, TOKEN), lambda m: places.get(norm(m.group(1)), m.group(1)), text)
             if place:
                 used.add(place)
                 names_in = [d["name"]] if d["name"] != "_" else re.findall(r"(?m)^  (?:abbrev |pub )*(\S+) :", text)
