@@ -1,11 +1,8 @@
 -- Nine numbers stored: after n turns the box of n components of the third leg.
-use Prim.Native.Nat.{◌+◌, ◌*◌, ◌%◌, ◌-◌, ◌≤◌}
+use Prim.Native.Nat.{◌+◌, ◌*◌, ◌%◌, ◌≤◌}
 use Rattle.planes.specs.Split.{split}
 use Rattle.real_to_reciprocal.specs.Stored.{Box, Stored}
 use Rattle.real_to_reciprocal.proofs.blocks.store_plane.Given as goal
 
 abbrev pub invariant-loop-n : goal.invariant-loop-n
 invariant-loop-n l = (l.n ≤ 3) × Stored l.initial.w l.w l.fo l.np (Box l.al (l.al + 1) (3 * l.j) (3 * l.j + 3) (3 * l.k) (3 * l.k + l.n)) (λ x y z. split l.t 0 27 (l.e + y % 3 * 3 + z % 3))
-
-abbrev pub decreases-loop-n : goal.decreases-loop-n
-decreases-loop-n l = 3 - l.n

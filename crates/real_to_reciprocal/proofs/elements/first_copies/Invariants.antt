@@ -1,6 +1,6 @@
 -- The first copies: after a turns those of a atoms.
 use mathlib.Core.Path.{◌≡◌}
-use Prim.Native.Nat.{ℕ, ◌-◌, ◌<◌, ◌≤◌}
+use Prim.Native.Nat.{ℕ, ◌<◌, ◌≤◌}
 use lib.ListN.{length, get_or}
 use Rattle.phonon.specs.Number.{index, int}
 use Rattle.real_to_reciprocal.specs.Copies.{FirstCopy}
@@ -8,6 +8,3 @@ use Rattle.real_to_reciprocal.proofs.elements.first_copies.Given as goal
 
 abbrev pub invariant-loop-a : goal.invariant-loop-a
 invariant-loop-a l = (l.a ≤ l.np) × (length l.first ≡ length l.initial.first) × ((b : ℕ) → b < l.a → FirstCopy l.s2p l.ns (index (int l.p2s b)) 0 (get_or l.first b 0))
-
-abbrev pub decreases-loop-a : goal.decreases-loop-a
-decreases-loop-a l = l.np - l.a

@@ -1,6 +1,6 @@
 -- The next copies: after k turns those of k supercell atoms.
 use mathlib.Core.Path.{◌≡◌}
-use Prim.Native.Nat.{ℕ, ◌+◌, ◌-◌, ◌<◌, ◌≤◌}
+use Prim.Native.Nat.{ℕ, ◌+◌, ◌<◌, ◌≤◌}
 use lib.ListN.{length, get_or}
 use Rattle.phonon.specs.Number.{index, int}
 use Rattle.real_to_reciprocal.specs.Copies.{FirstCopy}
@@ -8,6 +8,3 @@ use Rattle.real_to_reciprocal.proofs.elements.later_copies.Given as goal
 
 abbrev pub invariant-loop-k : goal.invariant-loop-k
 invariant-loop-k l = (l.k ≤ l.ns) × (length l.later ≡ length l.initial.later) × ((b : ℕ) → b < l.k → FirstCopy l.s2p l.ns (index (int l.s2p b)) (b + 1) (get_or l.later b 0))
-
-abbrev pub decreases-loop-k : goal.decreases-loop-k
-decreases-loop-k l = l.ns - l.k

@@ -1,5 +1,5 @@
 -- The phase factors of one atom: after j turns those of j supercell atoms, each by its entry of the multiplicities.
-use Prim.Native.Nat.{◌+◌, ◌*◌, ◌-◌, ◌≤◌}
+use Prim.Native.Nat.{◌+◌, ◌*◌, ◌≤◌}
 use Rattle.phonon.specs.Interaction.{leg}
 use Rattle.phonon.specs.RealToReciprocal.{phase_factor_entry}
 use Rattle.real_to_reciprocal.specs.Three.{WroteThree}
@@ -7,6 +7,3 @@ use Rattle.real_to_reciprocal.proofs.phases.phase_factor_row.Given as goal
 
 abbrev pub invariant-loop-j : goal.invariant-loop-j
 invariant-loop-j l = (l.j ≤ l.ns) × WroteThree l.initial.w l.w l.fo l.d (l.i * l.ns) (l.i * l.ns + l.j) (λ x. phase_factor_entry l.np l.ns l.vectors l.multiplicity (leg (record { leg0 = l.q0; leg1 = l.q1; leg2 = l.q2 }) x))
-
-abbrev pub decreases-loop-j : goal.decreases-loop-j
-decreases-loop-j l = l.ns - l.j

@@ -1,5 +1,5 @@
 -- The phase factors of the three legs: after i turns those of i atoms, row behind row.
-use Prim.Native.Nat.{◌*◌, ◌-◌, ◌≤◌}
+use Prim.Native.Nat.{◌*◌, ◌≤◌}
 use Rattle.phonon.specs.Interaction.{leg}
 use Rattle.phonon.specs.RealToReciprocal.{phase_factor_entry}
 use Rattle.real_to_reciprocal.specs.Three.{WroteThree}
@@ -7,6 +7,3 @@ use Rattle.real_to_reciprocal.proofs.phases.phase_factors.Given as goal
 
 abbrev pub invariant-loop-i : goal.invariant-loop-i
 invariant-loop-i l = (l.i ≤ l.np) × WroteThree l.initial.w l.w l.fo l.d 0 (l.i * l.ns) (λ x. phase_factor_entry l.np l.ns l.vectors l.multiplicity (leg (record { leg0 = l.q0; leg1 = l.q1; leg2 = l.q2 }) x))
-
-abbrev pub decreases-loop-i : goal.decreases-loop-i
-decreases-loop-i l = l.np - l.i

@@ -1,11 +1,8 @@
 -- The phase at the sum of the three q: after j turns the sum over j components.
 use mathlib.Core.Path.{◌≡◌}
-use Prim.Native.Nat.{◌-◌, ◌≤◌}
+use Prim.Native.Nat.{◌≤◌}
 use Rattle.real_to_reciprocal.proofs.PhaseLaws.{pre_sum}
 use Rattle.real_to_reciprocal.proofs.phases.pre_phase.Given as goal
 
 abbrev pub invariant-loop-j : goal.invariant-loop-j
 invariant-loop-j l = (l.j ≤ 3) × (l.sum ≡ pre_sum l.vectors (record { leg0 = l.q0; leg1 = l.q1; leg2 = l.q2 }) l.v l.j)
-
-abbrev pub decreases-loop-j : goal.decreases-loop-j
-decreases-loop-j l = 3 - l.j
