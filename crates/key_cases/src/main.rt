@@ -49,6 +49,7 @@ struct Case {
 
 // Case Mn: set and result are those of the definitions' table, which has also the totals that document 01 leaves out. Slot
 // (0, 1, 2) is number 5.
+#[tactic(auto, unfolding(crate::specs::Cells::key_case_of, crate::specs::Cells::cell_of, crate::specs::Cells::outcome_of, crate::specs::Cells::joined_number, crate::specs::Cells::anchoring_of, crate::specs::Cells::symmetry_of, phonon::proofs::Evaluate::evaluate))]
 fn case_of(n: usize) -> Case
     requires { (1 ≤ n) × (n ≤ 11) }
     ensures { Cells.Sized result × (Cells.key_case_of result ≡ slice_index_or key_cases (n - 1) M1) }
