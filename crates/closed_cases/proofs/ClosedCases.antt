@@ -13,7 +13,7 @@ use Rattle.phonon.specs.Number.{bits, f0, f1, at, table}
 use Rattle.phonon.specs.Common.{cat}
 use Rattle.phonon.specs.ReciprocalToNormal.{dot}
 use Rattle.phonon.specs.Refusal.{triplet_refusal, list_refusal, totals_refusal, joined_refusal}
-use Rattle.phonon.specs.Doors.{answer_for, triplet_outcome, list_outcome, totals_outcome, joined_outcome}
+use Rattle.phonon.specs.Doors.{triplet_outcome, list_outcome, totals_outcome, joined_outcome}
 use Rattle.phonon.specs.KeyCases.{minus0, minus1}
 use Rattle.closed_cases.specs.ClosedCases.{made_over, made_frequencies, made_flags, forces2, crystal2, grid3, some_from, some, some2, strength_of2, strength2, constants1, eigenvectors1, strength_of1, passed1, nine, constants9, strength9, tables1, joined1, symmetrized1, list1, totals1, tables_u, triplet_u, list_u, joined_u, totals_u, shorter, longer, starting, as_is, phases_u}
 use Rattle.phonon.proofs.Evaluate.{evaluate}
@@ -96,7 +96,7 @@ strength_of_nine = refl
 -- ---- the doors: all that an accepted call leaves
 
 pub joined_averaged_compact : joined_outcome (joined1 Averaged Compact 1 (2 ∷ 5 ∷ 8 ∷ 9 ∷ 14 ∷ [])) ≡ record {
-  answer = answer_for 0;
+  answer = 0;
   strengths =
       minus1 ∷ minus1 ∷ f0 ∷ minus1 ∷ minus1 ∷ bits 0x40d1daf96f9cfa03
       ∷ minus1 ∷ minus1 ∷ bits 0x40f4daefcd581ba2 ∷ f0 ∷ minus1 ∷ minus1
@@ -108,7 +108,7 @@ unfolding computed
 joined_averaged_compact = refl
 
 pub joined_plain_full : joined_outcome (joined1 Plain Full 2 (0 ∷ 3 ∷ 6 ∷ 8 ∷ 14 ∷ 17 ∷ [])) ≡ record {
-  answer = answer_for 0;
+  answer = 0;
   strengths =
       f0 ∷ minus1 ∷ minus1 ∷ bits 0x40dcbe67e52ba345 ∷ minus1 ∷ minus1
       ∷ bits 0x40d608d1377728cf ∷ minus1 ∷ bits 0x40ca5fcc5a9a16a6 ∷ minus1 ∷ minus1 ∷ minus1
@@ -120,7 +120,7 @@ unfolding computed
 joined_plain_full = refl
 
 pub triplet_symmetrized : triplet_outcome symmetrized1 ≡ record {
-  answer = answer_for 0;
+  answer = 0;
   strengths =
       f0 ∷ f0 ∷ f0 ∷ bits 0x40d15d1c06ad555b ∷ f0 ∷ f0
       ∷ f0 ∷ f0 ∷ f0 ∷ f0 ∷ f0 ∷ f0
@@ -131,7 +131,7 @@ unfolding computed
 triplet_symmetrized = refl
 
 pub list_of_two : list_outcome list1 ≡ record {
-  answer = answer_for 0;
+  answer = 0;
   strengths =
       minus1 ∷ minus1 ∷ minus1 ∷ minus1 ∷ minus1 ∷ minus1
       ∷ minus1 ∷ minus1 ∷ bits 0x40e268d97818618b ∷ minus1 ∷ minus1 ∷ minus1
@@ -144,11 +144,11 @@ pub list_of_two : list_outcome list1 ≡ record {
 unfolding computed
 list_of_two = refl
 
-pub totals_at_frequency_point : totals_outcome (totals1 AtFrequencyPoint 9) ≡ record { answer = answer_for 0; totals = bits 0x4013619672194e8c ∷ bits 0x40345cc081ccc783 ∷ [] }
+pub totals_at_frequency_point : totals_outcome (totals1 AtFrequencyPoint 9) ≡ record { answer = 0; totals = bits 0x4013619672194e8c ∷ bits 0x40345cc081ccc783 ∷ [] }
 unfolding computed
 totals_at_frequency_point = refl
 
-pub totals_per_slot : totals_outcome (totals1 PerSlot 18) ≡ record { answer = answer_for 0; totals = bits 0x4013619672194e8c ∷ bits 0xc04973abad3ca3ac ∷ [] }
+pub totals_per_slot : totals_outcome (totals1 PerSlot 18) ≡ record { answer = 0; totals = bits 0x4013619672194e8c ∷ bits 0xc04973abad3ca3ac ∷ [] }
 unfolding computed
 totals_per_slot = refl
 
@@ -238,16 +238,16 @@ phase_of_an_order = refl
 
 -- ---- a refused call leaves all as it was
 
-pub untouched : triplet_outcome (phases_u Symmetrized) ≡ record { answer = answer_for 9; strengths = replicate 9 minus1; work = replicate 203 minus1 }
+pub untouched : triplet_outcome (phases_u Symmetrized) ≡ record { answer = 9; strengths = replicate 9 minus1; work = replicate 203 minus1 }
 unfolding computed
 untouched = refl
 
 -- a NaN in the vectors
-pub list_untouched : list_outcome (list_u (starting nan 1) as_is as_is) ≡ record { answer = answer_for 4; strengths = replicate 18 minus1; work = replicate 203 minus1 }
+pub list_untouched : list_outcome (list_u (starting nan 1) as_is as_is) ≡ record { answer = 4; strengths = replicate 18 minus1; work = replicate 203 minus1 }
 unfolding computed
 list_untouched = refl
 
 -- a NaN in the frequencies
-pub totals_untouched : totals_outcome (totals_u (starting nan 11) as_is as_is) ≡ record { answer = answer_for 4; totals = minus1 ∷ [] }
+pub totals_untouched : totals_outcome (totals_u (starting nan 11) as_is as_is) ≡ record { answer = 4; totals = minus1 ∷ [] }
 unfolding computed
 totals_untouched = refl

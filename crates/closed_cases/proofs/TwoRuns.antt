@@ -5,11 +5,10 @@ use mathlib.Core.Path.{◌≡◌, refl, sym, ◌∙◌}
 use mathlib.Core.Bool.{true, false, true≢false}
 use mathlib.Core.List.{[], ◌∷◌}
 use lib.ListN.{replicate}
-use Rattle.phonon.specs.declared.Answer.TheVariants.{Accepted}
 use Rattle.phonon.specs.Number.{bits, f0, f1, flagged}
 use Rattle.phonon.specs.Sets.{of_joined}
 use Rattle.phonon.specs.ImagSelfEnergy.{sum_joined, counted}
-use Rattle.phonon.specs.Doors.{answer_for, joined_outcome}
+use Rattle.phonon.specs.Doors.{joined_outcome}
 use Rattle.phonon.specs.KeyCases.{minus1, half, unflagged}
 use Rattle.phonon.specs.Demand3.{joined, Narrowed, Stays, IsSlot, Kept, SameStrength, SameBath, SameTotal}
 use Rattle.phonon.proofs.Evaluate.{evaluate}
@@ -23,7 +22,7 @@ computed = 0
 -- ---- what each leaves: position 1's band lies below the raised cutoff, position 2's is the changed one
 
 pub first_leaves : joined_outcome first_run ≡ record {
-  answer = answer_for 0;
+  answer = 0;
   strengths =
       f0 ∷ f0 ∷ f0 ∷ f0 ∷ f1 ∷ half ∷ f0 ∷ half ∷ quarter
       ∷ f0 ∷ f0 ∷ f0 ∷ f0 ∷ bits 0x3ff999999999999a ∷ bits 0x3fe999999999999a ∷ f0 ∷ bits 0x3fe999999999999a ∷ bits 0x3fd999999999999a
@@ -35,7 +34,7 @@ unfolding computed
 first_leaves = refl
 
 pub second_leaves : joined_outcome second_run ≡ record {
-  answer = answer_for 0;
+  answer = 0;
   strengths =
       f0 ∷ f0 ∷ f0 ∷ f0 ∷ f1 ∷ half ∷ f0 ∷ half ∷ quarter
       ∷ f0 ∷ f0 ∷ f0 ∷ f0 ∷ f0 ∷ minus1 ∷ f0 ∷ f0 ∷ f0
@@ -118,11 +117,11 @@ counted_kept j k s =
     (λ h. record { unflagged = refl; stays0 = stays_first; stays1 = stays_2; stays2 = stays_2 }))
     j s.second k s.third
 
-first_accepted : (joined_outcome first_run).answer ≡ Accepted
+first_accepted : (joined_outcome first_run).answer ≡ 0
 unfolding computed
 first_accepted = refl
 
-second_accepted : (joined_outcome second_run).answer ≡ Accepted
+second_accepted : (joined_outcome second_run).answer ≡ 0
 unfolding computed
 second_accepted = refl
 

@@ -8,7 +8,6 @@ use mathlib.Core.List.{List, []}
 use lib.Dec.{T}
 use lib.Ieee.{Float, nan, lt, le}
 use lib.ListN.{get_or, length}
-use Rattle.phonon.specs.declared.Answer.TheVariants.{Accepted}
 use Rattle.phonon.specs.declared.Symmetry.{Symmetry}
 use Rattle.phonon.specs.declared.Symmetry.TheVariants.{Off, Symmetrized}
 use Rattle.phonon.specs.Number.{◌⊕◌, ◌⊗◌, ◌⊘◌, f0, f6, at, index, int, flagged, table}
@@ -19,7 +18,7 @@ use Rattle.phonon.specs.ReciprocalToNormal.{inverse_roots, column_entry, column,
 use Rattle.phonon.specs.Interaction.{orders, leg, exchanged, order_count, point, reciprocals, sixth, value, phonons_at, strength_with, strength_at, slot_with, strengths_with, strengths, list_strengths}
 use Rattle.phonon.specs.ImagSelfEnergy.{Sum, second1, third2, counted, slot_term, total, totals, sum_alone, sum_joined}
 use Rattle.phonon.specs.Refusal.{triplet_refusal, list_refusal, totals_refusal, joined_refusal}
-use Rattle.phonon.specs.Doors.{number_of, answer_for, triplet_leaves, triplet_outcome, list_leaves, list_outcome, totals_leaves, totals_outcome, joined_with, joined_leaves, joined_outcome}
+use Rattle.phonon.specs.Doors.{triplet_leaves, triplet_outcome, list_leaves, list_outcome, totals_leaves, totals_outcome, joined_with, joined_leaves, joined_outcome}
 use Rattle.phonon.specs.Demand3.{Run, one, joined, share, IsAccepted, worked, written, Narrowed, Unchanged, Stays, IsSlot, Kept, SameStrength, SameBath, SameElse, SameSlot, SameTotal, SameAlone, Demand3}
 use Rattle.phonon.proofs.Laws.{fold_ext, ctable_ext, table_at, table_length, div_of, mod_of, joined_part, pair_lt, part_at}
 use Rattle.phonon.proofs.Order.{to_T, is_false, lt_not_le, le_lt}
@@ -161,46 +160,39 @@ list_at s t m p q =
 
 -- ---- an answer that accepts fixes what is left
 
-no_refusal : (m : ℕ) → answer_for (suc m) ≡ Accepted → ⊥
-unfolding answer_for
-no_refusal m e = let z : ◌≡◌ {A = ℕ} 0 1 = cc in omega arith
+no_refusal : (m : ℕ) → ◌≡◌ {A = ℕ} (suc m) 0 → ⊥
+no_refusal m e = omega arith
 
--- the number of the answer to a refusal is the refusal
-pub number_back : (n : ℕ) → number_of (answer_for n) ≡ n
-unfolding number_of answer_for
-number_back zero = refl
-number_back (suc n) = refl
-
-pub triplet_left : (s : TripletSet) → (triplet_outcome s).answer ≡ Accepted → (triplet_outcome s).strengths ≡ strengths (of_triplet s) s.strengths
+pub triplet_left : (s : TripletSet) → (triplet_outcome s).answer ≡ 0 → (triplet_outcome s).strengths ≡ strengths (of_triplet s) s.strengths
 unfolding triplet_outcome triplet_leaves
 triplet_left s = go (triplet_refusal s)
   where
-    go : (m : ℕ) → (triplet_leaves m s).answer ≡ Accepted → (triplet_leaves m s).strengths ≡ strengths (of_triplet s) s.strengths
+    go : (m : ℕ) → (triplet_leaves m s).answer ≡ 0 → (triplet_leaves m s).strengths ≡ strengths (of_triplet s) s.strengths
     go zero e = refl
     go (suc m) e = absurd (no_refusal m e)
 
-pub list_left : (s : ListSet) → (list_outcome s).answer ≡ Accepted → (list_outcome s).strengths ≡ list_strengths s
+pub list_left : (s : ListSet) → (list_outcome s).answer ≡ 0 → (list_outcome s).strengths ≡ list_strengths s
 unfolding list_outcome list_leaves
 list_left s = go (list_refusal s)
   where
-    go : (m : ℕ) → (list_leaves m s).answer ≡ Accepted → (list_leaves m s).strengths ≡ list_strengths s
+    go : (m : ℕ) → (list_leaves m s).answer ≡ 0 → (list_leaves m s).strengths ≡ list_strengths s
     go zero e = refl
     go (suc m) e = absurd (no_refusal m e)
 
-pub joined_left_lem : (s : JoinedSet) → (joined_outcome s).answer ≡ Accepted → joined_outcome s ≡ joined_with s (strengths (of_joined s) s.strengths)
+pub joined_left_lem : (s : JoinedSet) → (joined_outcome s).answer ≡ 0 → joined_outcome s ≡ joined_with s (strengths (of_joined s) s.strengths)
 unfolding joined_outcome joined_leaves
 joined_left_lem s = go (joined_refusal s)
   where
-    go : (m : ℕ) → (joined_leaves m s).answer ≡ Accepted → joined_leaves m s ≡ joined_with s (strengths (of_joined s) s.strengths)
+    go : (m : ℕ) → (joined_leaves m s).answer ≡ 0 → joined_leaves m s ≡ joined_with s (strengths (of_joined s) s.strengths)
     go zero e = refl
     go (suc m) e = absurd (no_refusal m e)
 
-pub totals_left_lem : (s : TotalsSet) → (totals_outcome s).answer ≡ Accepted
+pub totals_left_lem : (s : TotalsSet) → (totals_outcome s).answer ≡ 0
     → (totals_outcome s).totals ≡ totals s.measures.first (sum_alone s) s.bath.temperature s.strengths
 unfolding totals_outcome totals_leaves
 totals_left_lem s = go (totals_refusal s)
   where
-    go : (m : ℕ) → (totals_leaves m s).answer ≡ Accepted → (totals_leaves m s).totals ≡ totals s.measures.first (sum_alone s) s.bath.temperature s.strengths
+    go : (m : ℕ) → (totals_leaves m s).answer ≡ 0 → (totals_leaves m s).totals ≡ totals s.measures.first (sum_alone s) s.bath.temperature s.strengths
     go zero e = refl
     go (suc m) e = absurd (no_refusal m e)
 
@@ -297,7 +289,7 @@ unfolding totals
 totals_at F s temperature v b l = table_at F b _ nan l
 
 -- the totals that an accepted call leaves
-pub alone_is : (s : TotalsSet) → (totals_outcome s).answer ≡ Accepted → (b : ℕ) → b < s.measures.first
+pub alone_is : (s : TotalsSet) → (totals_outcome s).answer ≡ 0 → (b : ℕ) → b < s.measures.first
     → at (totals_outcome s).totals b ≡ total (sum_alone s) s.bath.temperature s.strengths b
 alone_is s a b l = ap (λ x. at x b) (totals_left_lem s a) ∙ totals_at _ _ _ _ b l
 
@@ -312,7 +304,7 @@ joined_own : (s : JoinedSet) → IsAccepted (joined s) → (b : ℕ) → b < s.t
 unfolding joined_with
 joined_own s a b l = joined_is s a b l ∙ sym (ap (λ o. total (sum_joined s) s.bath.temperature o.strengths b) (joined_left_lem s a))
 
-pub same_alone : (s s' : TotalsSet) → (totals_outcome s).answer ≡ Accepted → (totals_outcome s').answer ≡ Accepted → SameElse s s'
+pub same_alone : (s s' : TotalsSet) → (totals_outcome s).answer ≡ 0 → (totals_outcome s').answer ≡ 0 → SameElse s s'
     → (b : ℕ) → b < s.measures.first
     → ((j k : ℕ) → j < 3 * s.measures.atoms → k < 3 * s.measures.atoms → counted (sum_alone s) b j k ≡ counted (sum_alone s') b j k)
     → ((j k : ℕ) → j < 3 * s.measures.atoms → k < 3 * s.measures.atoms → counted (sum_alone s) b j k ≡ true → SameSlot s s' b j k)

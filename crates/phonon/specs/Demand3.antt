@@ -2,7 +2,6 @@
 -- `≡` on Float is equality of bits with every NaN counted as one.
 use Rattle.std.specs.Prelude.{ℕ, ◌+◌, ◌*◌, ◌<◌, ◌≡◌, true, false, Float}
 use Rattle.std.specs.Float.Ieee.{lt, le}
-use Rattle.phonon.specs.declared.Answer.TheVariants.{Accepted}
 use Rattle.phonon.specs.Number.{at, index, int, flagged}
 use Rattle.phonon.specs.Common.{cat}
 use Rattle.phonon.specs.Sets.{Phonons, Triplet, bands_of, slot, slots, TripletSet, ListSet, TotalsSet, JoinedSet, of_triplet, of_joined, of_list}
@@ -20,9 +19,9 @@ pub data Run : Type 0 where
 
 -- the call is accepted
 abbrev pub IsAccepted : Run → Type 0
-IsAccepted (one s) = (triplet_outcome s).answer ≡ Accepted
-IsAccepted (joined s) = (joined_outcome s).answer ≡ Accepted
-IsAccepted (share s t) = ((list_outcome s).answer ≡ Accepted) × (t < s.list)
+IsAccepted (one s) = (triplet_outcome s).answer ≡ 0
+IsAccepted (joined s) = (joined_outcome s).answer ≡ 0
+IsAccepted (share s t) = ((list_outcome s).answer ≡ 0) × (t < s.list)
 
 -- the triplet that is worked
 abbrev pub worked : Run → Triplet
@@ -127,7 +126,7 @@ pub record Demand3 : Type 0 where
       → ((j k : ℕ) → IsSlot (of_joined s) b j k → counted (sum_joined s) b j k ≡ true → Kept (of_joined s) (of_joined s') b j k)
       → SameTotal s s' b
   -- totals alone: a position whose counted slots are the same, with the same strengths and later frequencies there, has the same total
-  pub alone : (s s' : TotalsSet) → (totals_outcome s).answer ≡ Accepted → (totals_outcome s').answer ≡ Accepted → SameElse s s'
+  pub alone : (s s' : TotalsSet) → (totals_outcome s).answer ≡ 0 → (totals_outcome s').answer ≡ 0 → SameElse s s'
       → (b : ℕ) → b < s.measures.first
       → ((j k : ℕ) → j < 3 * s.measures.atoms → k < 3 * s.measures.atoms → counted (sum_alone s) b j k ≡ counted (sum_alone s') b j k)
       → ((j k : ℕ) → j < 3 * s.measures.atoms → k < 3 * s.measures.atoms → counted (sum_alone s) b j k ≡ true → SameSlot s s' b j k)

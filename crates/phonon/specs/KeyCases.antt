@@ -8,7 +8,7 @@ use Rattle.phonon.specs.declared.Symmetry.{Symmetry}
 use Rattle.phonon.specs.declared.Symmetry.TheVariants.{Off, Symmetrized}
 use Rattle.phonon.specs.Number.{bits, f0, f1, f2, f3, table}
 use Rattle.phonon.specs.Sets.{JoinedSet}
-use Rattle.phonon.specs.Doors.{JoinedOutcome, answer_for}
+use Rattle.phonon.specs.Doors.{JoinedOutcome}
 
 -- ---- the numbers of the cases
 
@@ -102,10 +102,10 @@ unfoldable pub holding : ℕ → Float → List ℕ → List Float
 holding n x l = table n (λ i. cond (among l i) x f0)
 
 unfoldable pub worked : List Float → List Float → JoinedOutcome
-worked strengths totals = record { answer = answer_for 0; strengths = strengths; totals = totals; work = replicate 203 f0 ++ minus1 ∷ minus1 ∷ [] }
+worked strengths totals = record { answer = 0; strengths = strengths; totals = totals; work = replicate 203 f0 ++ minus1 ∷ minus1 ∷ [] }
 
 unfoldable pub untouched : ℕ → JoinedOutcome
-untouched number = record { answer = answer_for number; strengths = replicate 27 minus1; totals = replicate 3 minus1; work = replicate 205 minus1 }
+untouched number = record { answer = number; strengths = replicate 27 minus1; totals = replicate 3 minus1; work = replicate 205 minus1 }
 
 -- ---- the table. The arguments of U are: cutoff, anchoring, symmetrizing, all-shortest, nonzero, force constant at (0, 1, 2), multiplicity count, bands, flags, temperature.
 

@@ -7,12 +7,14 @@ pub mod Trig
 pub mod Funcs
 pub mod Tests
 pub mod Sets
+pub mod Handed
 pub mod RealToReciprocal
 pub mod ReciprocalToNormal
 pub mod Interaction
 pub mod ImagSelfEnergy
 pub mod Limits
 pub mod Refusal
+pub mod Answers
 pub mod Doors
 pub mod KeyCases
 pub mod Demand3

@@ -8,6 +8,8 @@ use Rattle.phonon.specs.declared.Form.{Form}
 use Rattle.phonon.specs.declared.Symmetry.{Symmetry}
 use Rattle.phonon.specs.declared.Weights.{Weights}
 use Rattle.phonon.specs.declared.Bath.{Bath}
+-- one thing for each of a triplet's three legs
+pub use Rattle.phonon.specs.declared.Legs.{Legs}
 
 -- the force constants; R, the number of their rows, is P if compact and S if full
 pub record Forces : Type 0 where
@@ -152,9 +154,3 @@ of_list s t = record {
   points = part 3 t s.triplets;
   flags = part (slots s.tables.measures) t s.flags;
 }
-
--- one thing for each of a triplet's three legs
-pub record Legs (A : Type 0) : Type 0 where
-  pub leg0 : A
-  pub leg1 : A
-  pub leg2 : A

@@ -1,5 +1,8 @@
-// The types that the definitions in specs/ and the contracts of every other crate speak of. No work is done here.
+// The types that the definitions in specs/ and the contracts of every other crate speak of.
 #![tactic(auto)]
+
+ghost use Rattle.std.specs.Prelude.{◌≡◌};
+ghost use Rattle.phonon.specs.Answers.{number_of};
 
 // A complex number, which the source holds as [f64; 2].
 #[derive(Clone, Copy)]
@@ -13,6 +16,30 @@ pub struct Complex {
 pub struct SinCos {
     pub sin: f64,
     pub cos: f64,
+}
+
+// One thing for each of a triplet's three legs.
+#[derive(Clone, Copy)]
+pub struct Legs<T> {
+    pub leg0: T,
+    pub leg1: T,
+    pub leg2: T,
+}
+
+impl<T: Copy> Legs<T> {
+    ghost use Rattle.std.specs.Prelude.{◌≡◌};
+    ghost use Rattle.phonon.specs.Interaction as Interaction;
+
+    // That of leg x.
+    pub fn leg(&self, x: usize) -> T
+        ensures { result ≡ Interaction.leg self.now x }
+    {
+        match x {
+            0 => self.leg0,
+            1 => self.leg1,
+            _ => self.leg2,
+        }
+    }
 }
 
 // The source's make_r0_average: the force constants of three atoms are anchored at the first of them, or
@@ -109,9 +136,98 @@ pub struct Band {
     pub occupation: f64,
 }
 
-// What a door answers: the set was worked through, or turned away with document 01's number.
+// ---- what a door is handed: specs/Handed.antt reads each as its record
+
+// The force constants, with a row for each atom of the primitive cell or of the supercell.
 #[derive(Clone, Copy)]
-pub enum Answer {
-    Accepted,
-    Refused(u8),
+pub struct Forces<'a> {
+    pub form: Form,
+    pub p2s: &'a [i64],
+    pub s2p: &'a [i64],
+    pub shortest: &'a [u8],
+    pub nonzero: &'a [u8],
+    pub constants: &'a [f64],
+}
+
+// The rest of what is known of the atoms.
+#[derive(Clone, Copy)]
+pub struct Crystal<'a> {
+    pub vectors: &'a [f64],
+    pub multiplicity: &'a [i64],
+    pub masses: &'a [f64],
+    pub forces: Forces<'a>,
+}
+
+// The mesh, the q matrix by rows, and the grid points' addresses.
+#[derive(Clone, Copy)]
+pub struct Grid<'a> {
+    pub mesh: [i64; 3],
+    pub matrix: [i64; 9],
+    pub addresses: &'a [i64],
+}
+
+#[derive(Clone, Copy)]
+pub struct Phonons<'a> {
+    pub frequencies: &'a [f64],
+    pub eigenvectors: &'a [f64],
+}
+
+// What every door of the strengths is handed beside its triplets, their flags and the lent buffers.
+#[derive(Clone, Copy)]
+pub struct Tables<'a> {
+    pub measures: Measures,
+    pub settings: Settings,
+    pub symmetry: Symmetry,
+    pub crystal: Crystal<'a>,
+    pub grid: Grid<'a>,
+    pub bands: &'a [i64],
+    pub phonons: Phonons<'a>,
+}
+
+// Both integration weights of each slot, or of each pair of later bands.
+#[derive(Clone, Copy)]
+pub struct IntegrationWeights<'a> {
+    pub first: &'a [f64],
+    pub second: &'a [f64],
+}
+
+// ---- what it answers: the set was worked through, or why it was turned away
+
+// Document 01's causes, by their numbers.
+#[derive(Clone, Copy, Debug, PartialEq, Eq, PartialOrd, Ord)]
+pub enum Refusal {
+    Measure = 1,
+    Length = 2,
+    Index = 3,
+    NotFinite = 4,
+    Mesh = 5,
+    Mass = 6,
+    Cutoff = 7,
+    Bath = 8,
+    Phase = 9,
+    File = 10,
+    Block = 11,
+    Heading = 12,
+    Width = 13,
+}
+
+impl From<Refusal> for u8 {
+    ghost use Rattle.std.specs.Prelude.{◌≡◌};
+    ghost use Rattle.phonon.specs.Answers.{number};
+
+    ghost from_gives = { λ r n. n ≡ number r };
+
+    fn from(r: Refusal) -> u8 {
+        r as u8
+    }
+}
+
+// An answer as one number: 0 where the set is worked through.
+pub fn number_of(answer: Result<(), Refusal>) -> u8
+    ensures { result ≡ number_of answer }
+{
+    match answer {
+        Ok(()) => 0,
+        Err(r) => u8::from(r),
+    }
 }
