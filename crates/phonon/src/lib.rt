@@ -99,6 +99,24 @@ pub struct TotalsMeasures {
     pub grid: usize,
 }
 
+// As measures: a supercell and vectors are not handed in, and both stand at 1.
+impl From<TotalsMeasures> for Measures {
+    ghost use Rattle.std.specs.Prelude.{◌≡◌};
+    ghost use Rattle.phonon.specs.Sets.{measures_of};
+
+    ghost from_gives = { λ m all. all ≡ measures_of m };
+
+    fn from(m: TotalsMeasures) -> Measures {
+        Measures {
+            atoms: m.atoms,
+            supercell: 1,
+            first: m.first,
+            grid: m.grid,
+            vectors: 1,
+        }
+    }
+}
+
 // The length of each slice that the measures fix, and the part of the work buffer that is used.
 #[derive(Clone, Copy)]
 pub struct Sizes {
