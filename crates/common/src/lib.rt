@@ -3,7 +3,7 @@
 
 pub mod bits;
 
-ghost use Rattle.std.specs.Prelude.{◌≡◌, ◌*◌, ◌^◌, ◌<◌, ◌≤◌, false, pos};
+ghost use Rattle.std.specs.Prelude.{◌≡◌, ◌*◌, ◌^◌, ◌<◌, ◌≤◌, ℤ, false, pos};
 ghost use Rattle.std.specs.Float.Ieee.Exact.{HasValue};
 ghost use Rattle.phonon.specs.Number.{bits, float};
 ghost use Rattle.phonon.specs.Common.{cadd, cmul, scale, is_zero};
@@ -12,24 +12,42 @@ ghost use Rattle.common.specs.Rounded.{Rounded};
 
 use phonon::Complex;
 
-// The float nearest to n. Where every whole number is a float, the machine converts it by itself.
-pub fn float_of(n: i64) -> f64
-    ensures { result ≡ float n }
-{
-    if (-9007199254740992 <= n) & (n <= 9007199254740992) {
-        return n as f64;
-    }
-    std::num::nearest_i64_to_f64(n)
+// A whole number of some type, and the float nearest to it. Where every whole number is a float, the machine converts it by itself.
+pub trait Whole {
+    ghost whole: { Self → ℤ };
+
+    fn nearest(self) -> f64
+        ensures { result ≡ float (whole self) };
 }
 
-// The same of a count.
-pub fn float_of_count(n: usize) -> f64
-    ensures { result ≡ float (pos n) }
-{
-    if n <= 0xffff_ffff {
-        return (n as u32) as f64;
+impl Whole for i64 {
+    ghost whole = { λ n. n };
+
+    fn nearest(self) -> f64 {
+        if (-9007199254740992 <= self) & (self <= 9007199254740992) {
+            return self as f64;
+        }
+        std::num::nearest_i64_to_f64(self)
     }
-    std::num::nearest_u64_to_f64(n as u64)
+}
+
+// A count.
+impl Whole for usize {
+    ghost whole = { λ n. pos n };
+
+    fn nearest(self) -> f64 {
+        if self <= 0xffff_ffff {
+            return (self as u32) as f64;
+        }
+        std::num::nearest_u64_to_f64(self as u64)
+    }
+}
+
+// The float nearest to n.
+pub fn float_of<N: Whole>(n: N) -> f64
+    ensures { result ≡ float (N.whole n) }
+{
+    n.nearest()
 }
 
 // The sum of two complex numbers.
