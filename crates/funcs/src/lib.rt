@@ -1,7 +1,7 @@
 // funcs.rs: the occupation of a phonon. Beside it the exponential, the sine and the cosine, which the language lacks.
 #![tactic(auto)]
 
-ghost use Rattle.std.specs.Prelude.{◌≡◌, true, false, ◌<◌, ◌≤◌, pos, length};
+ghost use Rattle.std.specs.Prelude.{◌≡◌, true, false, ◌<◌, ◌≤◌, pos, length, map};
 ghost use mathlib.Core.List.{[], ◌∷◌, foldl};
 ghost use Rattle.std.specs.Float.{fin};
 ghost use Rattle.phonon.specs.Number.{◌⊖◌, ◌⊗◌, ◌⊘◌, f1, at, float, whole};
@@ -11,7 +11,7 @@ ghost use Rattle.phonon.specs.Funcs.{bose_einstein};
 ghost use Rattle.floats.specs.Size.{Within};
 ghost use Rattle.funcs.specs.Reducible.{reducible};
 
-use phonon::SinCos;
+use phonon::{Legs, SinCos};
 
 // n, for n = 18 down to 1.
 const EXP_DIVISORS: [f64; 18] = [
@@ -64,28 +64,18 @@ fn reduce(x: f64) -> Reduced
     }
 }
 
-// Two numbers side by side.
-#[derive(Clone, Copy)]
-pub struct Two {
-    pub one: f64,
-    pub two: f64,
-}
-
-// Of r and of s: p = 1, then p = 1 + p * (r / n) for n = 18 down to 1. Both divisions are one instruction. The table is read in the
-// loop, which is laid out straight for it: then each divisor is a known number, and 16, 8, 4, 2 and 1 take a product for a division.
-fn exp_series_two(r: f64, s: f64) -> Two
-    ensures { (result.one ≡ Exp.exp_series r) × (result.two ≡ Exp.exp_series s) }
+// Of each r: p = 1, then p = 1 + p * (r / n) for n = 18 down to 1. Of two numbers both divisions are one instruction. The table is lent
+// to the loop, which is laid out straight for it: then each divisor is a known number, and 16, 8, 4, 2 and 1 take a product for a division.
+fn exp_series<const N: usize>(r: [f64; N]) -> [f64; N]
+    ensures { result ≡ map Exp.exp_series r }
 {
-    let mut p = 1.0;
-    let mut q = 1.0;
-    let mut i = 0usize;
-    while i < 18 {
-        let d = EXP_DIVISORS[i];
-        p = 1.0 + p * (r / d);
-        q = 1.0 + q * (s / d);
-        i += 1;
+    let mut p = [1.0; N];
+    for d in &EXP_DIVISORS {
+        for k in 0..N {
+            p[k] = 1.0 + p[k] * (r[k] / *d);
+        }
     }
-    Two { one: p, two: q }
+    p
 }
 
 // The exponential of x. Above 709 it is infinity; below 0, and of a NaN, it is a NaN.
@@ -94,8 +84,8 @@ pub fn exp(x: f64) -> f64
 {
     if is_reducible(x) {
         let a = reduce(x);
-        let p = exp_series_two(a.remainder, a.remainder);
-        return p.one * a.power;
+        let p = exp_series([a.remainder]);
+        return p[0] * a.power;
     }
     if x > 709.0 {
         return 1.0 / 0.0;
@@ -103,23 +93,22 @@ pub fn exp(x: f64) -> f64
     0.0 / 0.0
 }
 
-// The exponentials of two numbers.
-pub fn exp_two(x: f64, y: f64) -> Two
-    ensures { (result.one ≡ Exp.exp x) × (result.two ≡ Exp.exp y) }
+// The exponentials of N numbers, side by side.
+pub fn exps<const N: usize>(x: [f64; N]) -> [f64; N]
+    ensures { result ≡ map Exp.exp x }
 {
-    if is_reducible(x) & is_reducible(y) {
-        let a = reduce(x);
-        let b = reduce(y);
-        let p = exp_series_two(a.remainder, b.remainder);
-        return Two {
-            one: p.one * a.power,
-            two: p.two * b.power,
-        };
+    if !x.iter().all(|y| is_reducible(*y)) {
+        return std::array::from_fn(|k| exp(x[k]));
     }
-    Two {
-        one: exp(x),
-        two: exp(y),
+    let mut remainders = x;
+    let mut powers = x;
+    for k in 0..N {
+        let a = reduce(x[k]);
+        remainders[k] = a.remainder;
+        powers[k] = a.power;
     }
+    let p = exp_series(remainders);
+    std::array::from_fn(|k| p[k] * powers[k])
 }
 
 // 2n * (2n + 1), for n = 9 down to 1.
@@ -291,20 +280,13 @@ fn three_series(x: f64, y: f64, z: f64, sines: &[f64; 9], cosines: &[f64; 9]) ->
 }
 
 // The sines and the cosines of three numbers.
-#[derive(Clone, Copy)]
-pub struct ThreeSinCos {
-    pub first: SinCos,
-    pub second: SinCos,
-    pub third: SinCos,
-}
-
-pub fn sin_cos_three(x: f64, y: f64, z: f64) -> ThreeSinCos
-    ensures { (result.first ≡ Trig.sin_cos x) × (result.second ≡ Trig.sin_cos y) × (result.third ≡ Trig.sin_cos z) }
+pub fn sin_cos_three(x: Legs<f64>) -> Legs<SinCos>
+    ensures { (result.leg0 ≡ Trig.sin_cos x.leg0) × (result.leg1 ≡ Trig.sin_cos x.leg1) × (result.leg2 ≡ Trig.sin_cos x.leg2) }
 {
-    if in_domain(x) & in_domain(y) & in_domain(z) {
-        let a = quartered(x);
-        let b = quartered(y);
-        let c = quartered(z);
+    if in_domain(x.leg0) & in_domain(x.leg1) & in_domain(x.leg2) {
+        let a = quartered(x.leg0);
+        let b = quartered(x.leg1);
+        let c = quartered(x.leg2);
         let p = three_series(
             a.rest * a.rest,
             b.rest * b.rest,
@@ -312,16 +294,16 @@ pub fn sin_cos_three(x: f64, y: f64, z: f64) -> ThreeSinCos
             &SINE_DIVISORS,
             &COSINE_DIVISORS,
         );
-        return ThreeSinCos {
-            first: turned(a.quadrant, a.rest, [p[0], p[1]]),
-            second: turned(b.quadrant, b.rest, [p[2], p[3]]),
-            third: turned(c.quadrant, c.rest, [p[4], p[5]]),
+        return Legs {
+            leg0: turned(a.quadrant, a.rest, [p[0], p[1]]),
+            leg1: turned(b.quadrant, b.rest, [p[2], p[3]]),
+            leg2: turned(c.quadrant, c.rest, [p[4], p[5]]),
         };
     }
-    ThreeSinCos {
-        first: sin_cos(x),
-        second: sin_cos(y),
-        third: sin_cos(z),
+    Legs {
+        leg0: sin_cos(x.leg0),
+        leg1: sin_cos(x.leg1),
+        leg2: sin_cos(x.leg2),
     }
 }
 
@@ -332,13 +314,10 @@ pub fn bose_einstein(x: f64, temperature: f64) -> f64
     1.0 / (exp(x / temperature) - 1.0)
 }
 
-// The occupations of two frequencies.
-pub fn bose_einstein_two(x: f64, y: f64, temperature: f64) -> Two
-    ensures { (result.one ≡ bose_einstein x temperature) × (result.two ≡ bose_einstein y temperature) }
+// The occupations of N frequencies, side by side.
+pub fn bose_einsteins<const N: usize>(x: [f64; N], temperature: f64) -> [f64; N]
+    ensures { result ≡ map (λ y. bose_einstein y temperature) x }
 {
-    let e = exp_two(x / temperature, y / temperature);
-    Two {
-        one: 1.0 / (e.one - 1.0),
-        two: 1.0 / (e.two - 1.0),
-    }
+    let e = exps::<N>(std::array::from_fn(|k| x[k] / temperature));
+    std::array::from_fn(|k| 1.0 / (e[k] - 1.0))
 }

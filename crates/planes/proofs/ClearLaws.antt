@@ -1,23 +1,13 @@
--- Numbers that are cleared one by one, and a slice that is cleared whole.
-use mathlib.Core.Path.{◌≡◌, refl, sym, ap, ◌∙◌}
-use mathlib.Core.List.{List, [], ◌∷◌, ◌++◌}
-use Prim.Native.Nat.{ℕ, zero, suc, ◌+◌, ◌<◌}
-use native.Mathlib.Nat.{le_of_suc-le-suc}
-use native.Mathlib.Numerals.{add-one}
+-- A slice that is cleared whole.
+use mathlib.Core.Path.{◌≡◌, sym, ◌∙◌}
+use mathlib.Core.List.{List, ◌++◌}
+use Prim.Native.Nat.{ℕ, ◌<◌}
 use native.Mathlib.Omega.{arith}
-use lib.ListN.{length, drop, set, replicate, length-append, length-drop, length-replicate, get_or-replicate, get_or-append}
+use lib.ListN.{length, drop, replicate, length-append, length-drop, length-replicate, get_or-replicate, get_or-append}
 use lib.Seq.{ext_get_or}
 use lib.Ieee.{Float, nan}
 use Rattle.phonon.specs.Number.{f0, table}
 use Rattle.phonon.proofs.Laws.{table_at, table_length}
-
-clear_suc : (n : ℕ) (v : Float) (d : List Float) → n < length d → set (replicate n v ++ drop n d) n v ≡ replicate (suc n) v ++ drop (suc n) d
-clear_suc n v [] l = absurd (omega arith)
-clear_suc zero v (x ∷ d) l = refl
-clear_suc (suc n) v (x ∷ d) l = ap (λ (t : List Float). v ∷ t) (clear_suc n v d (le_of_suc-le-suc l))
-
-pub clear_more : (n : ℕ) (d : List Float) → n < length d → set (replicate n f0 ++ drop n d) n f0 ≡ replicate (n + 1) f0 ++ drop (n + 1) d
-clear_more n d l = rw add-one (clear_suc n f0 d l)
 
 pub clear_all : (n : ℕ) (d : List Float) → n ≡ length d → replicate n f0 ++ drop n d ≡ table n (λ k. f0)
 clear_all n d e =
