@@ -3,6 +3,7 @@
 pub mod Series
 pub mod Powers
 pub mod Range
+pub mod Changed
 pub mod Reducible
 pub mod Floor
 pub mod Shift

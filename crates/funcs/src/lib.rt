@@ -67,7 +67,7 @@ fn reduce(x: f64) -> Reduced
 // Of each r: p = 1, then p = 1 + p * (r / n) for n = 18 down to 1. Of two numbers both divisions are one instruction. The table is lent
 // to the loop, which is laid out straight for it: then each divisor is a known number, and 16, 8, 4, 2 and 1 take a product for a division.
 fn exp_series<const N: usize>(r: [f64; N]) -> [f64; N]
-    ensures { result ≡ map Exp.exp_series r }
+    ensures { result ≡ map Exp.exp_series r.entry }
 {
     let mut p = [1.0; N];
     for d in &EXP_DIVISORS {
@@ -95,10 +95,14 @@ pub fn exp(x: f64) -> f64
 
 // The exponentials of N numbers, side by side.
 pub fn exps<const N: usize>(x: [f64; N]) -> [f64; N]
-    ensures { result ≡ map Exp.exp x }
+    ensures { result ≡ map Exp.exp x.entry }
 {
     if !x.iter().all(|y| is_reducible(*y)) {
-        return std::array::from_fn(|k| exp(x[k]));
+        let mut e = x;
+        for y in e.iter_mut() {
+            *y = exp(*y);
+        }
+        return e;
     }
     let mut remainders = x;
     let mut powers = x;
@@ -107,8 +111,11 @@ pub fn exps<const N: usize>(x: [f64; N]) -> [f64; N]
         remainders[k] = a.remainder;
         powers[k] = a.power;
     }
-    let p = exp_series(remainders);
-    std::array::from_fn(|k| p[k] * powers[k])
+    let mut e = exp_series(remainders);
+    for k in 0..N {
+        e[k] = e[k] * powers[k];
+    }
+    e
 }
 
 // 2n * (2n + 1), for n = 9 down to 1.
@@ -307,17 +314,25 @@ pub fn sin_cos_three(x: Legs<f64>) -> Legs<SinCos>
     }
 }
 
+// The occupations of N frequencies, side by side.
+pub fn bose_einsteins<const N: usize>(x: [f64; N], temperature: f64) -> [f64; N]
+    ensures { result ≡ map (λ y. bose_einstein y temperature) x.entry }
+{
+    let mut ratios = x;
+    for y in ratios.iter_mut() {
+        *y = *y / temperature;
+    }
+    let mut n = exps(ratios);
+    for y in n.iter_mut() {
+        *y = 1.0 / (*y - 1.0);
+    }
+    n
+}
+
 // The occupation of a frequency x: 1 / (exp(x / temperature) - 1).
 pub fn bose_einstein(x: f64, temperature: f64) -> f64
     ensures { result ≡ bose_einstein x temperature }
 {
-    1.0 / (exp(x / temperature) - 1.0)
-}
-
-// The occupations of N frequencies, side by side.
-pub fn bose_einsteins<const N: usize>(x: [f64; N], temperature: f64) -> [f64; N]
-    ensures { result ≡ map (λ y. bose_einstein y temperature) x }
-{
-    let e = exps::<N>(std::array::from_fn(|k| x[k] / temperature));
-    std::array::from_fn(|k| 1.0 / (e[k] - 1.0))
+    let [n] = bose_einsteins([x], temperature);
+    n
 }
