@@ -12,6 +12,7 @@ use crate::contract::contract_fc3_e0;
 use crate::dot::cmplx_dot_partial4;
 use crate::row::contract_row;
 use crate::strength::strength_of;
+use phonon::Legs;
 
 // At `to`, the strength of bands j and k of legs 1 and 2, from the matrix at mo: one row contraction, at ro, and one dot.
 fn list_slot(
@@ -128,48 +129,44 @@ pub fn full_strengths(
     w: &mut [f64],
     to: usize,
     fo: usize,
-    e0: usize,
-    e1: usize,
-    e2: usize,
+    e: Legs<usize>,
     so: usize,
-    freqs0: &[f64],
-    freqs1: &[f64],
-    freqs2: &[f64],
+    freqs: Legs<&[f64]>,
     np: usize,
     cutoff: f64,
 )
-    requires sizes { (1 ≤ np) × (np ≤ 1000) × (3 * np ≤ length freqs0.now) × (3 * np ≤ length freqs1.now) × (3 * np ≤ length freqs2.now) }
+    requires sizes { (1 ≤ np) × (np ≤ 1000) × (3 * np ≤ length freqs.leg0.now) × (3 * np ≤ length freqs.leg1.now) × (3 * np ≤ length freqs.leg2.now) }
     requires layout { (fo + 2 * (3 * np * (3 * np * (3 * np))) ≤ so)
-        × (e0 + 2 * (3 * np * (3 * np)) ≤ so)
-        × (e1 + 2 * (3 * np * (3 * np)) ≤ so)
-        × (e2 + 2 * (3 * np * (3 * np)) ≤ so)
+        × (e.leg0 + 2 * (3 * np * (3 * np)) ≤ so)
+        × (e.leg1 + 2 * (3 * np * (3 * np)) ≤ so)
+        × (e.leg2 + 2 * (3 * np * (3 * np)) ≤ so)
         × (so + 2 * (3 * np * (3 * np)) + 2 * (3 * np) ≤ to)
         × (to + 3 * np * (3 * np * (3 * np)) ≤ length w.old) }
     ensures { WroteAbove w.old w.new so (so + 2 * (3 * np * (3 * np)) + 2 * (3 * np)) to
         (3 * np * (3 * np * (3 * np)))
         (λ n. strength np (constants_in w.old fo np)
         (record {
-          leg0 = phonon_in w.old e0 (3 * np) freqs0.now (n / (3 * np) / (3 * np));
-          leg1 = phonon_in w.old e1 (3 * np) freqs1.now (n / (3 * np) % (3 * np));
-          leg2 = phonon_in w.old e2 (3 * np) freqs2.now (n % (3 * np));
+          leg0 = phonon_in w.old e.leg0 (3 * np) freqs.leg0.now (n / (3 * np) / (3 * np));
+          leg1 = phonon_in w.old e.leg1 (3 * np) freqs.leg1.now (n / (3 * np) % (3 * np));
+          leg2 = phonon_in w.old e.leg2 (3 * np) freqs.leg2.now (n % (3 * np));
         }) cutoff) }
 {
     let nb = 3 * np;
     let d = nb * nb;
     let ro = so + 2 * d;
     for b in 0..nb {
-        contract_fc3_e0(w, so, fo, e0 + b, nb);
+        contract_fc3_e0(w, so, fo, e.leg0 + b, nb);
         list_plane(
             w,
             to + b * d,
             so,
-            e1,
-            e2,
+            e.leg1,
+            e.leg2,
             ro,
-            freqs1,
-            freqs2,
+            freqs.leg1,
+            freqs.leg2,
             np,
-            freqs0[b],
+            freqs.leg0[b],
             cutoff,
         );
     }

@@ -13,6 +13,7 @@ use crate::contract::contract_fc3_e0;
 use crate::dot::cmplx_dot_partial4;
 use crate::row::contract_row;
 use crate::strength::strength_of;
+use phonon::Legs;
 use planes::{get_split, index_at};
 
 // Whether slot i is flagged.
@@ -261,13 +262,9 @@ pub fn reciprocal_to_normal_squared(
     flags: &[u8],
     w: &mut [f64],
     fo: usize,
-    e0: usize,
-    e1: usize,
-    e2: usize,
+    e: Legs<usize>,
     so: usize,
-    freqs0: &[f64],
-    freqs1: &[f64],
-    freqs2: &[f64],
+    freqs: Legs<&[f64]>,
     bands: &[i64],
     np: usize,
     cutoff: f64,
@@ -276,23 +273,23 @@ pub fn reciprocal_to_normal_squared(
         × (np ≤ 1000)
         × (length out.old ≡ length bands.now * (3 * np) * (3 * np))
         × (length flags.now ≡ length bands.now * (3 * np) * (3 * np)) }
-    requires tables { (3 * np ≤ length freqs0.now)
-        × (3 * np ≤ length freqs1.now)
-        × (3 * np ≤ length freqs2.now)
+    requires tables { (3 * np ≤ length freqs.leg0.now)
+        × (3 * np ≤ length freqs.leg1.now)
+        × (3 * np ≤ length freqs.leg2.now)
         × (all_within (pos 0) (pos (3 * np - 1)) bands.now ≡ true) }
     requires layout { (fo + 2 * (3 * np * (3 * np * (3 * np))) ≤ so)
-        × (e0 + 2 * (3 * np * (3 * np)) ≤ so)
-        × (e1 + 2 * (3 * np * (3 * np)) ≤ so)
-        × (e2 + 2 * (3 * np * (3 * np)) ≤ so)
+        × (e.leg0 + 2 * (3 * np * (3 * np)) ≤ so)
+        × (e.leg1 + 2 * (3 * np * (3 * np)) ≤ so)
+        × (e.leg2 + 2 * (3 * np * (3 * np)) ≤ so)
         × (so + 2 * (3 * np * (3 * np)) + 4 * (3 * np) ≤ length w.old) }
     ensures { (out.new ≡ table (length bands.now * (3 * np) * (3 * np))
         (λ n. cond (flagged flags.now n) (at out.old n)
         (strength np (constants_in w.old fo np)
         (record {
-          leg0 = phonon_in w.old e0 (3 * np) freqs0.now
+          leg0 = phonon_in w.old e.leg0 (3 * np) freqs.leg0.now
               (index (int bands.now (n / (3 * np) / (3 * np))));
-          leg1 = phonon_in w.old e1 (3 * np) freqs1.now (n / (3 * np) % (3 * np));
-          leg2 = phonon_in w.old e2 (3 * np) freqs2.now (n % (3 * np));
+          leg1 = phonon_in w.old e.leg1 (3 * np) freqs.leg1.now (n / (3 * np) % (3 * np));
+          leg2 = phonon_in w.old e.leg2 (3 * np) freqs.leg2.now (n % (3 * np));
         }) cutoff)))
         × SameOutside w.old w.new so (so + 2 * (3 * np * (3 * np)) + 4 * (3 * np)) }
 {
@@ -300,10 +297,10 @@ pub fn reciprocal_to_normal_squared(
     let ro = so + 2 * (nb * nb);
     for b in 0..bands.len() {
         let n = index_at(bands, b);
-        let x = freqs0[n];
-        contract_fc3_e0(w, so, fo, e0 + n, nb);
+        let x = freqs.leg0[n];
+        contract_fc3_e0(w, so, fo, e.leg0 + n, nb);
         fill_plane(
-            out, flags, w, so, e1, e2, ro, freqs1, freqs2, np, b, x, cutoff,
+            out, flags, w, so, e.leg1, e.leg2, ro, freqs.leg1, freqs.leg2, np, b, x, cutoff,
         );
     }
 }
