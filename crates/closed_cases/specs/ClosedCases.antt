@@ -14,7 +14,8 @@ use Rattle.phonon.specs.declared.Anchoring.TheVariants.{Plain}
 use Rattle.phonon.specs.declared.Form.TheVariants.{Compact, Full}
 use Rattle.phonon.specs.Number.{◌⊘◌, bits, f0, f1, f2, f3, float, whole, at, table}
 use Rattle.phonon.specs.Common.{cat, ctable}
-use Rattle.phonon.specs.Sets.{Forces, Crystal, Grid, Phonons, Tables, Legs, TripletSet, ListSet, TotalsSet, JoinedSet}
+use Rattle.phonon.specs.declared.Legs.{Legs}
+use Rattle.phonon.specs.Sets.{Forces, Crystal, Grid, Phonons, Tables, TripletSet, ListSet, TotalsSet, JoinedSet}
 use Rattle.phonon.specs.RealToReciprocal.{q_at, phase_factors, pre_factors, reciprocal_entry}
 use Rattle.phonon.specs.ReciprocalToNormal.{inverse_roots, Phonon, phonon_at, strength}
 use Rattle.phonon.specs.KeyCases.{minus0, minus1, half, f4, f16, among}

@@ -12,7 +12,8 @@ use Rattle.phonon.specs.declared.Symmetry.{Symmetry}
 use Rattle.phonon.specs.declared.Symmetry.TheVariants.{Off, Symmetrized}
 use Rattle.phonon.specs.Number.{◌⊕◌, ◌⊗◌, ◌⊘◌, f0, f6, at, index, int, flagged, table}
 use Rattle.phonon.specs.Common.{scale}
-use Rattle.phonon.specs.Sets.{Phonons, Triplet, bands_of, slot, slots, part, TripletSet, ListSet, TotalsSet, JoinedSet, of_triplet, of_joined, of_list, Legs}
+use Rattle.phonon.specs.declared.Legs.{Legs}
+use Rattle.phonon.specs.Sets.{Phonons, Triplet, bands_of, slot, slots, part, TripletSet, ListSet, TotalsSet, JoinedSet, of_triplet, of_joined, of_list}
 use Rattle.phonon.specs.RealToReciprocal.{q_at, reciprocal}
 use Rattle.phonon.specs.ReciprocalToNormal.{inverse_roots, column_entry, column, Phonon, phonon_at, amplitude, squared, cut, any_cut, strength_from, strength}
 use Rattle.phonon.specs.Interaction.{orders, leg, exchanged, order_count, point, reciprocals, sixth, value, phonons_at, strength_with, strength_at, slot_with, strengths_with, strengths, list_strengths}

@@ -3,7 +3,8 @@ use Rattle.std.specs.Prelude.{ℕ, zero, suc, ◌/◌, ◌%◌, cond, List, [], 
 use Rattle.phonon.specs.declared.Symmetry.{Symmetry}
 use Rattle.phonon.specs.declared.Symmetry.TheVariants.{Off, Symmetrized}
 use Rattle.phonon.specs.Number.{◌⊕◌, ◌⊘◌, f0, f6, index, at, int, flagged, fold, table}
-use Rattle.phonon.specs.Sets.{Grid, bands_of, Triplet, slot, slots, part, ListSet, of_list, Legs}
+use Rattle.phonon.specs.declared.Legs.{Legs}
+use Rattle.phonon.specs.Sets.{Grid, bands_of, Triplet, slot, slots, part, ListSet, of_list}
 use Rattle.phonon.specs.RealToReciprocal.{q_at, reciprocal}
 use Rattle.phonon.specs.ReciprocalToNormal.{inverse_roots, Phonon, phonon_at, strength}
 

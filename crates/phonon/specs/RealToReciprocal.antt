@@ -11,7 +11,8 @@ use Rattle.phonon.specs.declared.Leg.TheVariants.{Alone, First, Second, Third}
 use Rattle.phonon.specs.Number.{◌⊕◌, ◌⊗◌, ◌⊘◌, bits, f0, f1, f2, f3, float, index, at, int, flagged, fold, table}
 use Rattle.phonon.specs.Common.{czero, cadd, cmul, scale, cat, ctable}
 use Rattle.phonon.specs.Trig.{sin_cos}
-use Rattle.phonon.specs.Sets.{Forces, Crystal, Grid, Legs}
+use Rattle.phonon.specs.declared.Legs.{Legs}
+use Rattle.phonon.specs.Sets.{Forces, Crystal, Grid}
 
 abbrev pub pi : Float
 pi = bits 0x400921FB54442D18

@@ -5,7 +5,8 @@ use Rattle.phonon.specs.declared.Complex.{Complex}
 use Rattle.phonon.specs.Number.{◌⊕◌, ◌⊗◌, ◌⊘◌, f0, f1, at, fold, table}
 use Rattle.phonon.specs.Common.{czero, cadd, cmul, scale, is_zero, cat, ctable}
 use Rattle.phonon.specs.Root.{root}
-use Rattle.phonon.specs.Sets.{Phonons, Legs}
+use Rattle.phonon.specs.declared.Legs.{Legs}
+use Rattle.phonon.specs.Sets.{Phonons}
 
 -- ---- scale_and_transpose
 

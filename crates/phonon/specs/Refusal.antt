@@ -10,7 +10,8 @@ use Rattle.phonon.specs.declared.Sizes.{Sizes}
 use Rattle.phonon.specs.Number.{f0, index, at, int}
 use Rattle.phonon.specs.Trig.{in_domain}
 use Rattle.phonon.specs.Tests.{all_true, every_below, finite, sign_bit, all_finite, all_within, vector_range}
-use Rattle.phonon.specs.Sets.{Crystal, Grid, Phonons, Tables, bands_of, slots, Triplet, TripletSet, ListSet, TotalsSet, JoinedSet, measures_of, of_triplet, triplet_of, of_list, Legs}
+use Rattle.phonon.specs.declared.Legs.{Legs}
+use Rattle.phonon.specs.Sets.{Crystal, Grid, Phonons, Tables, bands_of, slots, Triplet, TripletSet, ListSet, TotalsSet, JoinedSet, measures_of, of_triplet, triplet_of, of_list}
 use Rattle.phonon.specs.Limits.{atoms_ok, supercell_ok, first_ok, grid_ok, vectors_ok, list_ok, lowest_address, highest_address, lowest_mesh, highest_mesh, lowest_matrix, highest_matrix, weight_ok, sizes_of, entries_of}
 use Rattle.phonon.specs.RealToReciprocal.{phase, pre_phase, anchor_vector}
 use Rattle.phonon.specs.Interaction.{exchanged, order_count, leg_q}

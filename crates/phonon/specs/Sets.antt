@@ -8,8 +8,6 @@ use Rattle.phonon.specs.declared.Form.{Form}
 use Rattle.phonon.specs.declared.Symmetry.{Symmetry}
 use Rattle.phonon.specs.declared.Weights.{Weights}
 use Rattle.phonon.specs.declared.Bath.{Bath}
--- one thing for each of a triplet's three legs
-pub use Rattle.phonon.specs.declared.Legs.{Legs}
 
 -- the force constants; R, the number of their rows, is P if compact and S if full
 pub record Forces : Type 0 where
