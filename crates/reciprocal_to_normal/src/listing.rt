@@ -146,9 +146,9 @@ pub fn full_strengths(
         (3 * np * (3 * np * (3 * np)))
         (λ n. strength np (constants_in w.old fo np)
         (record {
-          leg0 = phonon_in w.old e.leg0 (3 * np) freqs.leg0.now (n / (3 * np) / (3 * np));
-          leg1 = phonon_in w.old e.leg1 (3 * np) freqs.leg1.now (n / (3 * np) % (3 * np));
-          leg2 = phonon_in w.old e.leg2 (3 * np) freqs.leg2.now (n % (3 * np));
+          leg0 = phonon_in w.old e.leg0 (3 * np) freqs.entry.leg0.now (n / (3 * np) / (3 * np));
+          leg1 = phonon_in w.old e.leg1 (3 * np) freqs.entry.leg1.now (n / (3 * np) % (3 * np));
+          leg2 = phonon_in w.old e.leg2 (3 * np) freqs.entry.leg2.now (n % (3 * np));
         }) cutoff) }
 {
     let nb = 3 * np;

@@ -286,10 +286,10 @@ pub fn reciprocal_to_normal_squared(
         (λ n. cond (flagged flags.now n) (at out.old n)
         (strength np (constants_in w.old fo np)
         (record {
-          leg0 = phonon_in w.old e.leg0 (3 * np) freqs.leg0.now
+          leg0 = phonon_in w.old e.leg0 (3 * np) freqs.entry.leg0.now
               (index (int bands.now (n / (3 * np) / (3 * np))));
-          leg1 = phonon_in w.old e.leg1 (3 * np) freqs.leg1.now (n / (3 * np) % (3 * np));
-          leg2 = phonon_in w.old e.leg2 (3 * np) freqs.leg2.now (n % (3 * np));
+          leg1 = phonon_in w.old e.leg1 (3 * np) freqs.entry.leg1.now (n / (3 * np) % (3 * np));
+          leg2 = phonon_in w.old e.leg2 (3 * np) freqs.entry.leg2.now (n % (3 * np));
         }) cutoff)))
         × SameOutside w.old w.new so (so + 2 * (3 * np * (3 * np)) + 4 * (3 * np)) }
 {
