@@ -11,58 +11,64 @@ use Rattle.phonon.specs.Common.{czero, cat}
 use Rattle.phonon.specs.ReciprocalToNormal.{place, add_unless_zero, contract_turn, contract_entry, contract, dot, row_entry, rows, amplitude, strength_from, strength}
 use Rattle.phonon.proofs.Laws.{fold_ext, ctable_at, div_of, mod_of, pair_lt}
 use Rattle.planes.specs.Region.{SameOutside}
-use Rattle.planes.specs.Split.{split, WroteSplit, column, strided}
+use Rattle.planes.specs.Split.{split, WroteSplit, strided}
 use Rattle.planes.specs.Layout.{constants_in, column_in}
 use Rattle.planes.proofs.SplitLaws.{split_at, split_below}
 use Rattle.planes.proofs.RegionLaws.{split_outside}
 use Rattle.planes.proofs.LayoutLaws.{column_at, constants_at_lem}
 use Rattle.planes.proofs.Products.{row_le}
 use Rattle.reciprocal_to_normal.specs.Arrays.{contracted, amplitude_from}
-use Rattle.reciprocal_to_normal.specs.Slots.{b_of, j_of, k_of, InColumn, plane_slot, slot_strength}
+use Rattle.reciprocal_to_normal.specs.declared.plane.Plane.{Plane}
+use Rattle.reciprocal_to_normal.specs.Places.{number_in, column_dot}
+use Rattle.reciprocal_to_normal.specs.Slots.{b_of, j_of, k_of, InColumn, plane_slot, bands_of, Fits, matrix_of, legs1_of, leg1_of, leg2_of, row_of, strength_in, amplitude_in, slot_in, slot_strength}
 use Rattle.reciprocal_to_normal.proofs.DotLaws.{dot_ext, dot_commutes}
 
-module _ (B : ℕ) {m m' e1 e1' e2 e2' : ℕ → Complex} (em : (i : ℕ) → i < B * B → m i ≡ m' i) (ef : (i : ℕ) → i < B * B → e1 i ≡ e1' i) (eg : (i : ℕ) → i < B * B → e2 i ≡ e2' i) where
-  pub amplitude_ext : (j k : ℕ) → j < B → k < B → amplitude_from B m e1 e2 j k ≡ amplitude_from B m' e1' e2' j k
-  unfolding amplitude_from
-  amplitude_ext j k pj pk =
-      dot_ext B _ _ _ _ (λ bm h. dot_ext B _ _ _ _ (λ cn q. em (cn * B + bm) (pair_lt q h)) (λ cn q. eg (cn * B + k) (pair_lt q pk))) (λ bm h. ef (bm * B + j) (pair_lt h pj))
+module _ (p : Plane) (fits : Fits p) where
+  abbrev B : ℕ
+  B = bands_of p
 
-  pub plane_ext : (f1 f2 : ℕ → Float) (x cutoff : Float) (n : ℕ) → j_of B n < B → k_of B n < B → plane_slot B m e1 e2 f1 f2 x cutoff n ≡ plane_slot B m' e1' e2' f1 f2 x cutoff n
-  unfolding plane_slot
-  plane_ext f1 f2 x cutoff n pj pk = ap (λ a. strength_from cutoff a x (f1 (j_of B n)) (f2 (k_of B n))) (amplitude_ext (j_of B n) (k_of B n) pj pk)
+  -- what is read lies below the row
+  module _ {l l' : List Float} {end : ℕ} (u : SameOutside l l' p.row end) where
+    pub amplitude_kept : (j k : ℕ) → j < B → k < B → amplitude_in l' p j k ≡ amplitude_in l p j k
+    unfolding amplitude_from
+    amplitude_kept j k pj pk =
+        dot_ext B _ _ _ _
+        (λ bm h. dot_ext B _ _ _ _
+        (λ cn q. let r = pair_lt q h in split_outside u p.matrix (B * B) (cn * B + bm) (omega (arith, fits.2)))
+        (λ cn q. let r = pair_lt q pk in split_outside u p.leg2 (B * B) (cn * B + k) (omega (arith, fits.4))))
+        (λ bm h. let r = pair_lt h pj in split_outside u p.leg1 (B * B) (bm * B + j) (omega (arith, fits.3)))
 
--- ---- one row contraction, and then the last dots
+    pub slot_kept : (n : ℕ) → j_of B n < B → k_of B n < B → slot_in l' p n ≡ slot_in l p n
+    unfolding plane_slot
+    slot_kept n pj pk = ap (λ a. strength_in p a (j_of B n) (k_of B n)) (amplitude_kept (j_of B n) (k_of B n) pj pk)
 
-module _ (B ro mo e1 e2 k : ℕ) (room1 : e1 + 2 * (B * B) ≤ ro) {l l₁ : List Float} (w : WroteSplit l l₁ ro B B (λ c. dot B (column l mo (B * B) B c) (strided l (e2 + k) (B * B) B))) where
-  row_at : (bm : ℕ) → bm < B → split l₁ ro B bm ≡ dot B (λ cn. split l mo (B * B) (cn * B + bm)) (λ cn. split l e2 (B * B) (cn * B + k))
-  row_at bm h = w.inside bm h ∙ dot_ext B _ _ _ _ (λ cn p. refl) (λ cn p. split_at l (e2 + k) e2 (B * B) (cn * B) (cn * B + k) (omega arith))
+  -- one row contraction, and then the last dots
+  module _ (k : ℕ) {l l₁ : List Float} (w : WroteSplit l l₁ p.row B B (column_dot l (matrix_of p) (leg2_of p k) B)) where
+    row_at : (bm : ℕ) → bm < B → split l₁ p.row B bm ≡ dot B (λ cn. split l p.matrix (B * B) (cn * B + bm)) (λ cn. split l p.leg2 (B * B) (cn * B + k))
+    row_at bm h = w.inside bm h ∙ dot_ext B _ _ _ _ (λ cn q. refl) (λ cn q. split_at l (p.leg2 + k) p.leg2 (B * B) (cn * B) (cn * B + k) (omega arith))
 
-  leg1_at : (j i : ℕ) → j < B → i < B → split l₁ e1 (B * B) (i * B + j) ≡ split l e1 (B * B) (i * B + j)
-  leg1_at j i pj h = let p = pair_lt h pj in split_below w e1 (B * B) (i * B + j) (omega arith)
+    leg1_at : (j i : ℕ) → j < B → i < B → split l₁ p.leg1 (B * B) (i * B + j) ≡ split l p.leg1 (B * B) (i * B + j)
+    leg1_at j i pj h = let r = pair_lt h pj in split_below w p.leg1 (B * B) (i * B + j) (omega (arith, fits.3))
 
-  -- of all j
-  dots_are : {l₂ : List Float} (ao : ℕ) → WroteSplit l₁ l₂ ao B B (λ c. dot B (column l₁ e1 (B * B) B c) (strided l₁ ro B 1)) → (j : ℕ) → j < B
-      → split l₂ ao B j ≡ amplitude_from B (split l mo (B * B)) (split l e1 (B * B)) (split l e2 (B * B)) j k
-  unfolding amplitude_from
-  dots_are ao v j pj =
-      v.inside j pj ∙ dot_commutes B _ _
-      ∙ dot_ext B _ _ _ _ (λ bm h. split_at l₁ ro ro B (bm * 1) bm (ap (λ x. ro + x) (mul-one bm)) ∙ row_at bm h) (λ i h. leg1_at j i pj h)
+    -- of all j
+    dots_are : {l₂ : List Float} (ao : ℕ) → WroteSplit l₁ l₂ ao B B (column_dot l₁ (legs1_of p) (row_of p) B) → (j : ℕ) → j < B → split l₂ ao B j ≡ amplitude_in l p j k
+    unfolding amplitude_from
+    dots_are ao v j pj =
+        v.inside j pj ∙ dot_commutes B _ _
+        ∙ dot_ext B _ _ _ _ (λ bm h. split_at l₁ p.row p.row B (bm * 1) bm (ap (λ x. p.row + x) (mul-one bm)) ∙ row_at bm h) (λ i h. leg1_at j i pj h)
 
-  pub pair_is : {l₂ : List Float} (ao : ℕ) → WroteSplit l₁ l₂ ao B B (λ c. dot B (column l₁ e1 (B * B) B c) (strided l₁ ro B 1)) → (f1 f2 : ℕ → Float) (x cutoff : Float) (b n : ℕ) → InColumn B b k B n
-      → strength_from cutoff (split l₂ ao B (j_of B n)) x (f1 (j_of B n)) (f2 k) ≡ plane_slot B (split l mo (B * B)) (split l e1 (B * B)) (split l e2 (B * B)) f1 f2 x cutoff n
-  unfolding plane_slot
-  pair_is ao v f1 f2 x cutoff b n d = rw d.1 (ap (λ a. strength_from cutoff a x (f1 (j_of B n)) (f2 k)) (dots_are ao v (j_of B n) d.2))
+    pub pair_is : {l₂ : List Float} (ao : ℕ) → WroteSplit l₁ l₂ ao B B (column_dot l₁ (legs1_of p) (row_of p) B) → (b n : ℕ) → InColumn B b k B n → strength_in p (split l₂ ao B (j_of B n)) (j_of B n) k ≡ slot_in l p n
+    unfolding plane_slot
+    pair_is ao v b n d = rw d.1 (ap (λ a. strength_in p a (j_of B n) k) (dots_are ao v (j_of B n) d.2))
 
-  -- of one j
-  pub dot_is : (j : ℕ) → j < B → dot B (split l₁ ro B) (strided l₁ (e1 + j) (B * B) B) ≡ amplitude_from B (split l mo (B * B)) (split l e1 (B * B)) (split l e2 (B * B)) j k
-  unfolding amplitude_from
-  dot_is j pj =
-      dot_ext B _ _ _ _ row_at (λ i h. split_at l₁ (e1 + j) e1 (B * B) (i * B) (i * B + j) (omega arith) ∙ leg1_at j i pj h)
+    -- of one j
+    pub dot_is : (j : ℕ) → j < B → dot B (split l₁ p.row B) (number_in l₁ (leg1_of p j)) ≡ amplitude_in l p j k
+    unfolding amplitude_from
+    dot_is j pj = dot_ext B _ _ _ _ row_at (λ i h. split_at l₁ (p.leg1 + j) p.leg1 (B * B) (i * B) (i * B + j) (omega arith) ∙ leg1_at j i pj h)
 
-  pub sparse_is : (f1 f2 : ℕ → Float) (x cutoff : Float) (b n : ℕ) → InColumn B b k B n
-      → strength_from cutoff (dot B (split l₁ ro B) (strided l₁ (e1 + j_of B n) (B * B) B)) x (f1 (j_of B n)) (f2 k) ≡ plane_slot B (split l mo (B * B)) (split l e1 (B * B)) (split l e2 (B * B)) f1 f2 x cutoff n
-  unfolding plane_slot
-  sparse_is f1 f2 x cutoff b n d = rw d.1 (ap (λ a. strength_from cutoff a x (f1 (j_of B n)) (f2 k)) (dot_is (j_of B n) d.2))
+    pub sparse_is : (b n : ℕ) → InColumn B b k B n → strength_in p (dot B (split l₁ p.row B) (number_in l₁ (leg1_of p (j_of B n)))) (j_of B n) k ≡ slot_in l p n
+    unfolding plane_slot
+    sparse_is b n d = rw d.1 (ap (λ a. strength_in p a (j_of B n) k) (dot_is (j_of B n) d.2))
 
 -- ---- the matrix of first band n, and the definition's amplitude
 

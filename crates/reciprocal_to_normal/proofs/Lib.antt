@@ -2,6 +2,7 @@
 pub mod ContractLaws
 pub mod ScaleLaws
 pub mod DotLaws
+pub mod PartLaws
 pub mod ColumnLaws
 pub mod SlotLaws
 pub mod FlagLaws

@@ -17,6 +17,10 @@ use Rattle.reciprocal_to_normal.specs.Slots.{Visited, b_of, j_of, k_of, InColumn
 pub visited_ext : {l l' : List Float} {p : ℕ → Bool} {v v' : ℕ → Float} {N : ℕ} {D : ℕ → Type 0} → Visited l l' p v N D → ((n : ℕ) → n < N → D n → v n ≡ v' n) → Visited l l' p v' N D
 visited_ext {l} {p = p} w e = record { size = w.size; done = λ n q d. w.done n q d ∙ ap (λ x. cond (p n) (at l n) x) (e n q d); rest = w.rest }
 
+-- the slot by another name
+pub visited_at : {l l' : List Float} {p : ℕ → Bool} {v : ℕ → Float} {N i i' : ℕ} → i ≡ i' → Visited l l' p v N (λ n. n ≡ i) → Visited l l' p v N (λ n. n ≡ i')
+visited_at e w = rw e at w
+
 module _ (p : ℕ → Bool) (v : ℕ → Float) (N : ℕ) where
   pub visited_none : (l : List Float) (D : ℕ → Type 0) → ((n : ℕ) → n < N → D n → ⊥) → Visited l l p v N D
   visited_none l D h = record { size = refl; done = λ n q d. absurd (h n q d); rest = λ n q d. refl }

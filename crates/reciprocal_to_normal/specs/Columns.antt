@@ -1,9 +1,15 @@
--- The partial sums of six columns' dot products, as one array: of partial sum p the real parts stand at 12 * p, the imaginary parts behind them.
-use Rattle.std.specs.Prelude.{◌≡◌, List, ℕ, ◌*◌, ◌<◌, length, Float}
+-- Sums of columns.
+use Rattle.std.specs.Prelude.{◌≡◌, ℕ, ◌<◌, length}
 use Rattle.phonon.specs.declared.Complex.{Complex}
-use Rattle.planes.specs.Split.{split}
+use Rattle.phonon.specs.Number.{at}
+use Rattle.reciprocal_to_normal.specs.declared.columns.Sums.{Sums}
 
--- partial sum p of column c is f p c, for the first m partial sums
-pub record Lanes (l : List Float) (m : ℕ) (f : ℕ → ℕ → Complex) : Type 0 where
-  pub size : length l ≡ 48
-  pub sum : (p c : ℕ) → p < m → c < 6 → split l (12 * p) 6 c ≡ f p c
+-- the sum of column c
+abbrev pub sum_at : {n : ℕ} → Sums n → ℕ → Complex
+sum_at t c = record { re = at t.re c; im = at t.im c }
+
+-- the n sums are f 0, f 1, .., f (n - 1)
+pub record Summed {n : ℕ} (t : Sums n) (f : ℕ → Complex) : Type 0 where
+  pub re_size : length t.re ≡ n
+  pub im_size : length t.im ≡ n
+  pub sum : (c : ℕ) → c < n → sum_at t c ≡ f c

@@ -1,4 +1,5 @@
--- The words of the contracts: contracted arrays, columns, slots and the full listing.
+-- The words of the contracts: places, contracted arrays, columns, slots and the full listing.
+pub mod Places
 pub mod Arrays
 pub mod Columns
 pub mod Slots

@@ -14,9 +14,7 @@ fn clear_planes(w: &mut [f64], off: usize, d: usize)
     requires { off + 2 * d ≤ length w.old }
     ensures { WroteSplit w.old w.new off d d (λ x. czero) }
 {
-    for x in 0..d {
-        put_split(w, off, d, x, Complex { re: 0.0, im: 0.0 });
-    }
+    w[off..off + 2 * d].fill(0.0);
 }
 
 // Adds e times the planes at fo to the planes at off.

@@ -6,6 +6,8 @@ pub mod contract;
 pub mod dot;
 pub mod gather;
 pub mod listing;
+pub mod places;
+pub mod plane;
 pub mod row;
 pub mod scale;
 pub mod slots;

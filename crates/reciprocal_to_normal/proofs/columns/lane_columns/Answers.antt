@@ -3,30 +3,30 @@ use mathlib.Core.Path.{◌≡◌, refl}
 use Prim.Native.Nat.{◌+◌, ◌*◌, ◌/◌}
 use Rattle.phonon.specs.Number.{fold}
 use Rattle.phonon.specs.Common.{czero}
-use Rattle.planes.specs.Split.{column, strided}
 use Rattle.planes.proofs.SplitLaws.{split_at}
-use Rattle.planes.proofs.ColsLaws.{cols_zero, cols_step, cols_ext}
+use Rattle.reciprocal_to_normal.specs.Places.{number_in, column_of}
+use Rattle.reciprocal_to_normal.proofs.ColumnLaws.{summed_ext}
 use Rattle.reciprocal_to_normal.proofs.DotLaws.{turn, lane_done}
 use native.Mathlib.Omega.{arith}
 use Rattle.reciprocal_to_normal.proofs.columns.lane_columns.Goals as goal
 
 pub loop-i-init : goal.loop-i-init
 unfolding fold
-loop-i-init c = (omega arith, cols_zero 6 _ (λ m h. refl))
+loop-i-init g c = (omega arith, summed_ext c.none-t.ensures (λ q h. refl))
 
 pub loop-i-preserved : goal.loop-i-preserved
-loop-i-preserved c =
+loop-i-preserved g c =
     let a = c.args in
     let i = c.loop-i.i in
     let k = 4 * i + a.p in (
       omega arith,
-      cols_step c.loop-i.invariant.1 c.add_columns.ensures
-          (λ m h e. turn (column a.w.now a.mo a.d a.n (a.j + m)) (strided a.w.now a.vo a.vd a.vs) czero (λ s. 4 * s + a.p) i e
-          (split_at a.w.now (a.mo + (k * a.n + a.j)) a.mo a.d m (k * a.n + (a.j + m)) (omega arith)) c.get_split-v.ensures),
+      summed_ext c.add_row.ensures
+          (λ q h. turn (column_of a.w.now a.m a.n (a.j + q)) (number_in a.w.now a.v) czero (λ s. 4 * s + a.p) i (c.loop-i.invariant.1.sum q h)
+          (split_at a.w.now (a.m.at + (k * a.n + a.j)) a.m.at a.m.apart q (k * a.n + (a.j + q)) (omega arith)) c.get.ensures),
     )
 
 pub returns : goal.returns
-returns c =
+returns g c =
     let a = c.args in
     let e : c.loop-i.i ≡ a.n / 4 = omega arith in
-    cols_ext (rw e at c.loop-i.invariant.1) (λ m h. lane_done (column a.w.now a.mo a.d a.n (a.j + m)) (strided a.w.now a.vo a.vd a.vs) a.n a.p)
+    summed_ext (rw e at c.loop-i.invariant.1) (λ q h. lane_done (column_of a.w.now a.m a.n (a.j + q)) (number_in a.w.now a.v) a.n a.p)

@@ -3,7 +3,8 @@ use mathlib.Core.Path.{◌≡◌, refl, ap₂, ◌∙◌}
 use Prim.Native.Nat.{◌+◌, ◌*◌, ◌/◌, ◌%◌, ◌<◌}
 use Rattle.phonon.specs.Number.{fold}
 use Rattle.phonon.specs.Common.{czero, cadd}
-use Rattle.planes.specs.Split.{split, strided}
+use Rattle.planes.specs.Split.{split}
+use Rattle.reciprocal_to_normal.specs.Places.{number_in}
 use Rattle.planes.proofs.Products.{row_le}
 use Rattle.reciprocal_to_normal.proofs.DotLaws.{turn, lane_done, first_lane_done, dot_done}
 use native.Mathlib.Omega.{arith}
@@ -17,25 +18,25 @@ pub add_term-s0-requires : goal.add_term-s0-requires
 add_term-s0-requires c =
     let a = c.args in
     let h : 4 * c.loop-i.i < a.n = omega arith in
-    omega (arith, row_le a.ys h)
+    omega (arith, row_le a.y.step h)
 
 pub add_term-s1-requires : goal.add_term-s1-requires
 add_term-s1-requires c =
     let a = c.args in
     let h : 4 * c.loop-i.i + 1 < a.n = omega arith in
-    omega (arith, row_le a.ys h)
+    omega (arith, row_le a.y.step h)
 
 pub add_term-s2-requires : goal.add_term-s2-requires
 add_term-s2-requires c =
     let a = c.args in
     let h : 4 * c.loop-i.i + 2 < a.n = omega arith in
-    omega (arith, row_le a.ys h)
+    omega (arith, row_le a.y.step h)
 
 pub add_term-s3-requires : goal.add_term-s3-requires
 add_term-s3-requires c =
     let a = c.args in
     let h : 4 * c.loop-i.i + 3 < a.n = omega arith in
-    omega (arith, row_le a.ys h)
+    omega (arith, row_le a.y.step h)
 
 pub loop-i-preserved : goal.loop-i-preserved
 loop-i-preserved c =
@@ -43,10 +44,10 @@ loop-i-preserved c =
     let i = c.loop-i.i in
     let inv = c.loop-i.invariant in (
       omega arith,
-      c.add_term-s0.ensures ∙ turn (split a.w.now a.xo a.xd) (strided a.w.now a.yo a.yd a.ys) czero (λ k. 4 * k) i inv.1 refl refl,
-      c.add_term-s1.ensures ∙ turn (split a.w.now a.xo a.xd) (strided a.w.now a.yo a.yd a.ys) czero (λ k. 4 * k + 1) i inv.2 refl refl,
-      c.add_term-s2.ensures ∙ turn (split a.w.now a.xo a.xd) (strided a.w.now a.yo a.yd a.ys) czero (λ k. 4 * k + 2) i inv.3 refl refl,
-      c.add_term-s3.ensures ∙ turn (split a.w.now a.xo a.xd) (strided a.w.now a.yo a.yd a.ys) czero (λ k. 4 * k + 3) i inv.4 refl refl,
+      c.add_term-s0.ensures ∙ turn (split a.w.now a.x.at a.x.apart) (number_in a.w.now a.y) czero (λ k. 4 * k) i inv.1 refl refl,
+      c.add_term-s1.ensures ∙ turn (split a.w.now a.x.at a.x.apart) (number_in a.w.now a.y) czero (λ k. 4 * k + 1) i inv.2 refl refl,
+      c.add_term-s2.ensures ∙ turn (split a.w.now a.x.at a.x.apart) (number_in a.w.now a.y) czero (λ k. 4 * k + 2) i inv.3 refl refl,
+      c.add_term-s3.ensures ∙ turn (split a.w.now a.x.at a.x.apart) (number_in a.w.now a.y) czero (λ k. 4 * k + 3) i inv.4 refl refl,
     )
 
 pub loop-r-init : goal.loop-r-init
@@ -57,17 +58,17 @@ loop-r-init c =
     let inv = rw e at c.loop-i.invariant in (
       omega arith,
       c.cmplx_add-s.ensures ∙ ap₂ cadd
-          (c.cmplx_add.ensures ∙ ap₂ cadd (inv.1 ∙ first_lane_done (split a.w.now a.xo a.xd) (strided a.w.now a.yo a.yd a.ys) a.n) (inv.2 ∙ lane_done (split a.w.now a.xo a.xd) (strided a.w.now a.yo a.yd a.ys) a.n 1))
-          (c.cmplx_add-2.ensures ∙ ap₂ cadd (inv.3 ∙ lane_done (split a.w.now a.xo a.xd) (strided a.w.now a.yo a.yd a.ys) a.n 2) (inv.4 ∙ lane_done (split a.w.now a.xo a.xd) (strided a.w.now a.yo a.yd a.ys) a.n 3)),
+          (c.cmplx_add.ensures ∙ ap₂ cadd (inv.1 ∙ first_lane_done (split a.w.now a.x.at a.x.apart) (number_in a.w.now a.y) a.n) (inv.2 ∙ lane_done (split a.w.now a.x.at a.x.apart) (number_in a.w.now a.y) a.n 1))
+          (c.cmplx_add-2.ensures ∙ ap₂ cadd (inv.3 ∙ lane_done (split a.w.now a.x.at a.x.apart) (number_in a.w.now a.y) a.n 2) (inv.4 ∙ lane_done (split a.w.now a.x.at a.x.apart) (number_in a.w.now a.y) a.n 3)),
     )
 
 pub loop-r-preserved : goal.loop-r-preserved
 loop-r-preserved c =
     let a = c.args in
-    (omega arith, c.add_term-s.ensures ∙ turn (split a.w.now a.xo a.xd) (strided a.w.now a.yo a.yd a.ys) _ (λ k. 4 * (a.n / 4) + k) c.loop-r.r c.loop-r.invariant.1 refl refl)
+    (omega arith, c.add_term-s.ensures ∙ turn (split a.w.now a.x.at a.x.apart) (number_in a.w.now a.y) _ (λ k. 4 * (a.n / 4) + k) c.loop-r.r c.loop-r.invariant.1 refl refl)
 
 pub returns : goal.returns
 returns c =
     let a = c.args in
     let e : c.loop-r.r ≡ a.n % 4 = omega arith in
-    (rw e at c.loop-r.invariant.1) ∙ dot_done (split a.w.now a.xo a.xd) (strided a.w.now a.yo a.yd a.ys) a.n
+    (rw e at c.loop-r.invariant.1) ∙ dot_done (split a.w.now a.x.at a.x.apart) (number_in a.w.now a.y) a.n

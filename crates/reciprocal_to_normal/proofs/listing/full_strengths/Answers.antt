@@ -10,8 +10,8 @@ use Rattle.reciprocal_to_normal.proofs.ListingLaws.{above_append, above_to, abov
 use native.Mathlib.Omega.{arith}
 use Rattle.reciprocal_to_normal.proofs.listing.full_strengths.Goals as goal
 
-pub list_plane-requires-clause-layout : goal.list_plane-requires-clause-layout
-list_plane-requires-clause-layout c =
+pub list_plane-requires-clause-sizes : goal.list_plane-requires-clause-sizes
+list_plane-requires-clause-sizes c =
     let a = c.args in
     omega (arith, row_le (3 * a.np * (3 * a.np)) c.loop-b-test.true, c.loop-b.invariant.1.size, c.contract_fc3_e0.ensures.size)
 
@@ -30,8 +30,8 @@ loop-b-preserved c =
           (above_outside (outside_split a.so end (omega arith) (omega arith) refl w) (omega (arith, room.4)) (above_wider a.so end (omega arith) (omega arith) c.list_plane.ensures))
           room.4
           (λ t pt. plane_at (3 * a.np) b t pt _ _ _ _ _ _ _
-          ∙ plane_is a.np a.fo a.e0 a.e1 a.e2 a.so b pb room.0 room.1 room.2 room.3 (outside_above inv) w
-          a.freqs0.now a.freqs1.now a.freqs2.now (λ i. i) a.cutoff b refl (b * (3 * a.np * (3 * a.np)) + t) (plane_b (3 * a.np) b t pt) (j_lt_of (3 * a.np) b t pt) (k_lt_of (3 * a.np) b t pt))),
+          ∙ plane_is a.np a.fo a.e.leg0 a.e.leg1 a.e.leg2 a.so b pb room.0 room.1 room.2 room.3 (outside_above inv) w
+          a.freqs.leg0.now a.freqs.leg1.now a.freqs.leg2.now (λ i. i) a.cutoff b refl (b * (3 * a.np * (3 * a.np)) + t) (plane_b (3 * a.np) b t pt) (j_lt_of (3 * a.np) b t pt) (k_lt_of (3 * a.np) b t pt))),
     )
 
 pub returns : goal.returns

@@ -7,4 +7,4 @@ use Rattle.reciprocal_to_normal.proofs.listing.full_strengths.Given as goal
 abbrev pub invariant-loop-b : goal.invariant-loop-b
 invariant-loop-b l =
     (l.b ≤ 3 * l.np) × WroteAbove l.initial.w l.w l.so (l.so + 2 * (3 * l.np * (3 * l.np)) + 2 * (3 * l.np)) l.to (l.b * (3 * l.np * (3 * l.np)))
-    (slot_strength l.np l.initial.w l.fo l.e0 l.e1 l.e2 l.freqs0 l.freqs1 l.freqs2 (λ i. i) l.cutoff)
+    (slot_strength l.np l.initial.w l.fo l.e.leg0 l.e.leg1 l.e.leg2 l.freqs.leg0.now l.freqs.leg1.now l.freqs.leg2.now (λ i. i) l.cutoff)

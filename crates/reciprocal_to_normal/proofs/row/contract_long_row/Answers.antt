@@ -1,13 +1,22 @@
--- The columns below `done` are written, and the next six, of which some may be written anew, follow.
+-- The columns of i turns are written; the last six, of which some may be written anew, end the row.
+use Prim.Native.Nat.{◌+◌, ◌*◌, ◌-◌, ◌≤◌}
+use mathlib.Core.Path.{◌≡◌}
+use Rattle.planes.proofs.RegionLaws.{split_to}
 use Rattle.reciprocal_to_normal.proofs.ColumnLaws.{row_block}
 use native.Mathlib.Omega.{arith}
 use Rattle.reciprocal_to_normal.proofs.row.contract_long_row.Goals as goal
 
-pub loop-done-preserved : goal.loop-done-preserved
-loop-done-preserved c =
+pub loop-i-preserved : goal.loop-i-preserved
+loop-i-preserved c =
     let a = c.args in
-    let next = c.next_columns-j.ensures in (
-      omega arith,
-      row_block a.ro a.mo a.d a.vo a.vd a.vs a.n c.requires.3 c.requires.4 c.loop-done.done c.next_columns-j.result 6
-          c.loop-done.invariant.1 c.dot_columns-t.ensures c.put_columns.ensures next.0 (omega arith) next.2,
-    )
+    let i = c.loop-i.i in
+    let j = c.min-j.result in
+    let done = a.n - (a.n - 6 * i) in
+    let next = c.min-j.ensures in
+    let below : 6 * i ≤ a.n = omega (arith, c.div_ceil-i-end.ensures, c.loop-i-test.true) in
+    let start : j ≤ done = omega (arith, next) in
+    let reach : done ≤ j + 6 = omega (arith, next) in
+    let last : j + 6 ≤ a.n = omega (arith, next) in
+    let end : j + 6 ≡ a.n - (a.n - 6 * (i + 1)) = omega (arith, next) in
+    split_to (j + 6) (a.n - (a.n - 6 * (i + 1))) end
+    (row_block a.ro a.m a.v a.n c.requires.2 done j c.loop-i.invariant c.dot_columns-t.ensures c.put.ensures start reach last)

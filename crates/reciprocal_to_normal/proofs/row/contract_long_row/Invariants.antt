@@ -1,11 +1,8 @@
--- The columns below `done` are written, and the next six, of which some may be written anew, follow.
-use Prim.Native.Nat.{◌-◌, ◌≤◌}
-use Rattle.phonon.specs.ReciprocalToNormal.{dot}
-use Rattle.planes.specs.Split.{WroteSplit, column, strided}
+-- The columns of i turns are written; the last six, of which some may be written anew, end the row.
+use Prim.Native.Nat.{◌-◌, ◌*◌}
+use Rattle.planes.specs.Split.{WroteSplit}
+use Rattle.reciprocal_to_normal.specs.Places.{column_dot}
 use Rattle.reciprocal_to_normal.proofs.row.contract_long_row.Given as goal
 
-abbrev pub invariant-loop-done : goal.invariant-loop-done
-invariant-loop-done l = (l.done ≤ l.n) × WroteSplit l.initial.w l.w l.ro l.n l.done (λ c. dot l.n (column l.initial.w l.mo l.d l.n c) (strided l.initial.w l.vo l.vd l.vs))
-
-abbrev pub decreases-loop-done : goal.decreases-loop-done
-decreases-loop-done l = l.n - l.done
+abbrev pub invariant-loop-i : goal.invariant-loop-i
+invariant-loop-i l = WroteSplit l.initial.w l.w l.ro l.n (l.n - (l.n - 6 * l.i)) (column_dot l.initial.w l.m l.v l.n)

@@ -1,13 +1,14 @@
 -- The slots below j are visited.
-use Prim.Native.Nat.{◌+◌, ◌*◌, ◌≤◌}
+use Prim.Native.Nat.{◌≤◌}
 use lib.ListN.{length}
-use Rattle.phonon.specs.Number.{at, flagged}
-use Rattle.phonon.specs.ReciprocalToNormal.{dot, strength_from}
-use Rattle.planes.specs.Split.{split, strided}
-use Rattle.reciprocal_to_normal.specs.Slots.{Visited, j_of, InColumn}
+use Rattle.phonon.specs.Number.{flagged}
+use Rattle.phonon.specs.ReciprocalToNormal.{dot}
+use Rattle.planes.specs.Split.{split}
+use Rattle.reciprocal_to_normal.specs.Places.{number_in}
+use Rattle.reciprocal_to_normal.specs.Slots.{Visited, j_of, InColumn, bands_of, leg1_of, strength_in}
 use Rattle.reciprocal_to_normal.proofs.slots.fill_sparse_column.Given as goal
 
 abbrev pub invariant-loop-j : goal.invariant-loop-j
 invariant-loop-j l =
-    (l.j ≤ l.nb)
-    × Visited l.initial.out l.out (flagged l.flags) (λ n. strength_from l.cutoff (dot l.nb (split l.w l.ro l.nb) (strided l.w (l.e1 + j_of l.nb n) (l.nb * l.nb) l.nb)) l.x (at l.freqs1 (j_of l.nb n)) l.z) (length l.initial.out) (InColumn l.nb l.b l.k l.j)
+    (l.j ≤ l.c.bands)
+    × Visited l.initial.out l.out (flagged l.flags) (λ n. strength_in l.p (dot (bands_of l.p) (split l.w l.p.row (bands_of l.p)) (number_in l.w (leg1_of l.p (j_of l.c.bands n)))) (j_of l.c.bands n) l.c.k) (length l.initial.out) (InColumn l.c.bands l.c.b l.c.k l.j)

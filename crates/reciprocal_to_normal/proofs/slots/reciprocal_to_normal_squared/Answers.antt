@@ -11,20 +11,20 @@ use Rattle.reciprocal_to_normal.proofs.AmplitudeLaws.{plane_is}
 use native.Mathlib.Omega.{arith}
 use Rattle.reciprocal_to_normal.proofs.slots.reciprocal_to_normal_squared.Goals as goal
 
-pub offset_bounds-freqs0-n : goal.offset_bounds-freqs0-n
-offset_bounds-freqs0-n c =
+pub offset_bounds-freqs-n : goal.offset_bounds-freqs-n
+offset_bounds-freqs-n c =
     let a = c.args in
     let h = index_below (3 * a.np) a.bands.now (omega arith) c.requires.tables.3 c.loop-b.b c.loop-b-test.true in
     omega arith
 
-pub bounds-freqs0-n : goal.bounds-freqs0-n
-bounds-freqs0-n c =
+pub bounds-freqs-n : goal.bounds-freqs-n
+bounds-freqs-n c =
     let a = c.args in
     let h = index_below (3 * a.np) a.bands.now (omega arith) c.requires.tables.3 c.loop-b.b c.loop-b-test.true in
     omega arith
 
-pub overflow_add-e0 : goal.overflow_add-e0
-overflow_add-e0 c =
+pub overflow_add-e : goal.overflow_add-e
+overflow_add-e c =
     let a = c.args in
     let h = index_below (3 * a.np) a.bands.now (omega arith) c.requires.tables.3 c.loop-b.b c.loop-b-test.true in
     omega arith
@@ -52,8 +52,8 @@ loop-b-preserved c =
       omega (arith, pb),
       all_step _ _ _ (3 * a.np) b some inv.1
           (visited_ext (rw inv.1.size at f.0)
-          (λ m q d. plane_is a.np a.fo a.e0 a.e1 a.e2 a.so n pn room.0 room.1 room.2 room.3 inv.2 w
-          a.freqs0.now a.freqs1.now a.freqs2.now (λ i. index (int a.bands.now i)) a.cutoff b en m d.0 (j_lt (3 * a.np) m some) d.1)),
+          (λ m q d. plane_is a.np a.fo a.e.leg0 a.e.leg1 a.e.leg2 a.so n pn room.0 room.1 room.2 room.3 inv.2 w
+          a.freqs.leg0.now a.freqs.leg1.now a.freqs.leg2.now (λ i. index (int a.bands.now i)) a.cutoff b en m d.0 (j_lt (3 * a.np) m some) d.1)),
       outside_then inv.2 (outside_then (outside_split a.so end (omega arith) (omega arith) refl w) (outside_wider a.so end (omega arith) (omega arith) f.1)),
     )
 

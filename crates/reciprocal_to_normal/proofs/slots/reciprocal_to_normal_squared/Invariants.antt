@@ -9,5 +9,5 @@ use Rattle.reciprocal_to_normal.proofs.slots.reciprocal_to_normal_squared.Given 
 abbrev pub invariant-loop-b : goal.invariant-loop-b
 invariant-loop-b l =
     (l.b ≤ length l.bands)
-    × Visited l.initial.out l.out (flagged l.flags) (slot_strength l.np l.initial.w l.fo l.e0 l.e1 l.e2 l.freqs0 l.freqs1 l.freqs2 (λ i. index (int l.bands i)) l.cutoff) (length l.initial.out) (InAll (3 * l.np) l.b)
+    × Visited l.initial.out l.out (flagged l.flags) (slot_strength l.np l.initial.w l.fo l.e.leg0 l.e.leg1 l.e.leg2 l.freqs.leg0.now l.freqs.leg1.now l.freqs.leg2.now (λ i. index (int l.bands i)) l.cutoff) (length l.initial.out) (InAll (3 * l.np) l.b)
     × SameOutside l.initial.w l.w l.so (l.so + 2 * (3 * l.np * (3 * l.np)) + 4 * (3 * l.np))
