@@ -9,7 +9,7 @@ ghost use Rattle.planes.specs.Split.{WroteSplit};
 ghost use Rattle.real_to_reciprocal.specs.Three.{array_at, WroteThree};
 ghost use Rattle.real_to_reciprocal.specs.Shape.{Anchored, Ranged};
 
-use common::{cmplx_add, cmplx_scale, float_of, float_of_count};
+use common::{cmplx_add, cmplx_scale, float_of};
 use funcs::{sin_cos, sin_cos_three};
 use phonon::{Complex, Crystal, Grid, Legs, SinCos};
 use planes::{index_at, put_split};
@@ -113,7 +113,7 @@ fn get_phase_factors(
         };
         sum = add_factors(sum, x);
     }
-    let s = 1.0 / float_of_count(count);
+    let s = 1.0 / float_of(count);
     Legs {
         leg0: cmplx_scale(sum.leg0, s),
         leg1: cmplx_scale(sum.leg1, s),
