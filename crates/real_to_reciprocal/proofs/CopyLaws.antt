@@ -12,7 +12,8 @@ use borrow.Author.Count.{below_more}
 use borrow.Author.Tests.{eq-eqb, ne_eqb}
 use Rattle.phonon.specs.Number.{index, int, fold}
 use Rattle.phonon.proofs.Laws.{fold_add, fold_step}
-use Rattle.real_to_reciprocal.specs.Copies.{FirstCopy}
+use Rattle.std.specs.Prelude.{Option, None, Some, MatchOption, ⊤}
+use Rattle.real_to_reciprocal.specs.Copies.{FirstCopy, place, NextCopy}
 
 -- turns that change nothing
 pub fold_idle : {A : Type 0} (n : ℕ) (s : A) (f : ℕ → A → A) → ((i : ℕ) → i < n → (x : A) → f i x ≡ x) → fold n s f ≡ s
@@ -48,6 +49,25 @@ module _ {A : Type 0} (s2p : List ℤ) (S y : ℕ) (s : A) (step : ℕ → A →
 -- the same copy by another name
 pub copy_at : {s2p : List ℤ} {S y from r r' : ℕ} → r' ≡ r → FirstCopy s2p S y from r → FirstCopy s2p S y from r'
 copy_at {s2p} {S} {y} {from} e c = subst (λ (n : ℕ). FirstCopy s2p S y from n) (sym e) c
+
+-- where a walk stands: at a copy of y, or behind all
+abbrev pub At : List ℤ → ℕ → ℕ → Option ℕ → Type 0
+At s2p S y (Some k) = (k < S) × (index (int s2p k) ≡ y)
+At s2p S y None = ⊤
+
+module _ (s2p : List ℤ) (S y from : ℕ) where
+  pub next_at : (o : Option ℕ) → NextCopy s2p S y from o → At s2p S y o
+  next_at (Some k) c = (c.1, c.0.copy c.1)
+  next_at None c = tt
+
+  pub next_first : (o : Option ℕ) → NextCopy s2p S y from o → FirstCopy s2p S y from (place S o)
+  next_first (Some k) c = c.0
+  next_first None c = c
+
+  -- an entry r of a table of copies
+  pub next_of : {r : ℕ} (o : Option ℕ) → MatchOption o (S ≤ r) (λ k. (k ≡ r) × (k < S)) → FirstCopy s2p S y from r → NextCopy s2p S y from o
+  next_of (Some k) m c = (copy_at m.0 c, m.1)
+  next_of None m c = copy_at (let l = c.within in omega arith) c
 
 -- a table of first copies, one entry more
 pub copies_more : {n v : ℕ} (s2p : List ℤ) (S : ℕ) (goal from : ℕ → ℕ) (l : List ℕ) → n < length l → ((a : ℕ) → a < n → FirstCopy s2p S (goal a) (from a) (get_or l a 0)) → FirstCopy s2p S (goal n) (from n) v

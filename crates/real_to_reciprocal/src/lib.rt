@@ -4,6 +4,7 @@
 pub mod blocks;
 pub mod elements;
 pub mod phases;
+pub mod supercell;
 
 ghost use Rattle.std.specs.Prelude.{◌≡◌, ◌*◌, ◌≤◌, length};
 ghost use Rattle.phonon.specs.Handed.{forces_of};
@@ -14,7 +15,7 @@ ghost use Rattle.real_to_reciprocal.specs.Shape.{Shaped};
 ghost use Rattle.real_to_reciprocal.specs.Stored.{region_end, FactorsBelow};
 
 use crate::blocks::{block, store_block};
-use crate::elements::{first_copies, later_copies};
+use crate::supercell::Supercell;
 use phonon::{Anchoring, Forces, Legs};
 
 // The force constants in reciprocal space, in the region of w from fo on. The pre-factors are in planes from po on,
@@ -44,37 +45,18 @@ pub fn real_to_reciprocal(
         }))
         × SameOutside w.old w.new fo (region_end fo np) }
 {
-    let mut first: [u16; 256] = [0; 256];
-    let mut later: [u16; 256] = [0; 256];
+    let cell = Supercell::of(*forces, np, ns);
     let mut t: [f64; 54] = [0.0; 54];
-    first_copies(&mut first, forces.p2s, forces.s2p, np, ns);
-    later_copies(&mut later, forces.s2p, ns);
     for i in 0..np {
         for j in 0..np {
             for k in 0..np {
-                block(
-                    &mut t,
-                    w,
-                    po,
-                    f.leg0,
-                    f.leg1,
-                    f.leg2,
-                    anchoring,
-                    forces.form,
-                    forces.p2s,
-                    forces.s2p,
-                    forces.shortest,
-                    forces.nonzero,
-                    forces.constants,
-                    &first,
-                    &later,
-                    np,
-                    ns,
-                    i,
-                    j,
-                    k,
-                );
-                store_block(w, fo, np, i, j, k, &t);
+                let atoms = Legs {
+                    leg0: i,
+                    leg1: j,
+                    leg2: k,
+                };
+                block(&mut t, w, po, f, &cell, anchoring, atoms);
+                store_block(w, fo, np, atoms, &t);
             }
         }
     }

@@ -4,7 +4,7 @@ use native.Mathlib.Nat.{eq-or-lt_of_le}
 use mathlib.Core.Path.{◌≡◌, sym, ◌∙◌}
 use Prim.Native.Nat.{◌<◌}
 use native.Mathlib.Omega.{arith}
-use Rattle.real_to_reciprocal.proofs.elements.next_copy.Goals as goal
+use Rattle.real_to_reciprocal.proofs.supercell.next_copy.Goals as goal
 
 pub returns-then-index_at-y : goal.returns-then-index_at-y
 returns-then-index_at-y c =
@@ -27,8 +27,8 @@ loop-k-preserved c = (
 
 pub returns : goal.returns
 returns c = record {
-  above = c.loop-k.invariant.0;
-  within = c.loop-k.invariant.1;
-  passed = c.loop-k.invariant.2;
+  above = c.requires;
+  within = omega arith;
+  passed = λ m p q. c.loop-k.invariant.2 m p (omega (arith, q));
   copy = λ l. absurd (omega arith);
 }
