@@ -79,11 +79,11 @@ fn add_factors(sum: Legs<Complex>, x: Legs<f64>) -> Legs<Complex>
         × (result.leg1 ≡ cadd sum.leg1 (Def.cis x.leg1))
         × (result.leg2 ≡ cadd sum.leg2 (Def.cis x.leg2)) }
 {
-    let t = sin_cos_three(x.leg0, x.leg1, x.leg2);
+    let t = sin_cos_three(x);
     Legs {
-        leg0: cmplx_add(sum.leg0, as_complex(t.first)),
-        leg1: cmplx_add(sum.leg1, as_complex(t.second)),
-        leg2: cmplx_add(sum.leg2, as_complex(t.third)),
+        leg0: cmplx_add(sum.leg0, as_complex(t.leg0)),
+        leg1: cmplx_add(sum.leg1, as_complex(t.leg1)),
+        leg2: cmplx_add(sum.leg2, as_complex(t.leg2)),
     }
 }
 
