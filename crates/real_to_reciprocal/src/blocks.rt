@@ -7,20 +7,11 @@ ghost use Rattle.planes.specs.Split.{split, WroteSplit, Cols};
 ghost use Rattle.real_to_reciprocal.specs.Stored.{Box, region_end, Stored, factors_in, FactorsBelow, AtomsBelow};
 
 use crate::elements::real_to_reciprocal_elements;
+use crate::sums::change_each;
 use crate::supercell::Supercell;
 use common::{cmplx_add, cmplx_mul};
 use phonon::{Anchoring, Complex, Leg, Legs};
 use planes::{get_split, put_split};
-
-// The 27 numbers of t, each times z.
-fn times(t: &mut [f64; 54], z: Complex)
-    ensures { WroteSplit t.old t.new 0 27 27 (λ e. cmul (split t.old 0 27 e) z) }
-{
-    for e in 0..27 {
-        let p = cmplx_mul(get_split(t, 0, 27, e), z);
-        put_split(t, 0, 27, e, p);
-    }
-}
 
 // The sum of three numbers from 0.0 on, over 3.0.
 fn mean(a: Complex, b: Complex, c: Complex) -> Complex
@@ -30,29 +21,6 @@ fn mean(a: Complex, b: Complex, c: Complex) -> Complex
     Complex {
         re: s.re / 3.0,
         im: s.im / 3.0,
-    }
-}
-
-// The mean of three numbers of t, from number e on, of `second`, from f on, and of `third`, from g on in steps of nine.
-fn average_run(
-    t: &mut [f64; 54],
-    second: &[f64; 54],
-    third: &[f64; 54],
-    e: usize,
-    f: usize,
-    g: usize,
-)
-    requires { (e ≤ 24) × (f ≤ 24) × (g < 9) }
-    ensures { WroteSplit t.old t.new e 27 3
-        (λ n. Def.over3
-        (cadd (cadd (cadd czero (split t.old 0 27 (e + n))) (split second.now 0 27 (f + n)))
-        (split third.now 0 27 (g + 9 * n)))) }
-{
-    for n in 0..3 {
-        let a = get_split(t, 0, 27, e + n);
-        let b = get_split(second, 0, 27, f + n);
-        let c = get_split(third, 0, 27, g + 9 * n);
-        put_split(t, e, 27, n, mean(a, b, c));
     }
 }
 
@@ -66,11 +34,11 @@ fn average(t: &mut [f64; 54], second: &[f64; 54], third: &[f64; 54])
         (split second.now 0 27 (e % 9 / 3 * 9 + e / 9 * 3 + e % 3)))
         (split third.now 0 27 (e % 3 * 9 + e % 9 / 3 * 3 + e / 9)))) }
 {
-    for q in 0..9 {
-        let l = q / 3;
-        let m = q % 3;
-        average_run(t, second, third, 3 * q, m * 9 + l * 3, m * 3 + l);
-    }
+    change_each(t, |e, a| {
+        let b = get_split(second, 0, 27, e % 9 / 3 * 9 + e / 9 * 3 + e % 3);
+        let c = get_split(third, 0, 27, e % 3 * 9 + e % 9 / 3 * 3 + e / 9);
+        mean(a, b, c)
+    });
 }
 
 // Three numbers of t, from number e on in steps of three, at `at` in planes d apart.
@@ -150,7 +118,8 @@ fn leg_block(
         (split w.now po cell.now.np atoms.leg0)) }
 {
     *t = real_to_reciprocal_elements(w, f1, f2, cell, leg, atoms);
-    times(t, get_split(w, po, cell.np, atoms.leg0));
+    let z = get_split(w, po, cell.np, atoms.leg0);
+    change_each(t, |_, s| cmplx_mul(s, z));
 }
 
 // Writes the block of three atoms to t, anchored at each in turn and averaged.

@@ -8,10 +8,11 @@ ghost use Rattle.planes.specs.Split.{split, WroteSplit, Cols};
 ghost use Rattle.real_to_reciprocal.specs.Pair.{pair_step, BlockIn, with_block, HeldIn, with_held, Settled};
 ghost use Rattle.real_to_reciprocal.specs.Stored.{AtomsBelow};
 
+use crate::sums::change_each;
 use crate::supercell::Supercell;
 use common::{cmplx_add, cmplx_mul, cmplx_scale};
 use phonon::{Complex, Forces, Form, Leg, Legs};
-use planes::{get_split, index_at, put_split};
+use planes::{get_split, index_at};
 
 // The row of the force constants for atom i.
 fn row_of(form: Form, p2s: &[i64], i: usize) -> usize
@@ -55,18 +56,20 @@ struct Block {
     z: Complex,
 }
 
+// s, the sum of element e, with a block.
+fn plus(s: Complex, constants: &[f64], block: Block, e: usize) -> Complex
+    requires { (e < 27) × BlockIn constants.now block }
+    ensures { result ≡ with_block constants.now block e s }
+{
+    cmplx_add(s, cmplx_scale(block.z, constants[block.base + e]))
+}
+
 // Adds a block to the 27 sums of t.
 fn add_block(t: &mut [f64; 54], constants: &[f64], block: Block)
     requires { BlockIn constants.now block }
     ensures { WroteSplit t.old t.new 0 27 27 (λ e. with_block constants.now block e (split t.old 0 27 e)) }
 {
-    for e in 0..27 {
-        let s = cmplx_add(
-            get_split(t, 0, 27, e),
-            cmplx_scale(block.z, constants[block.base + e]),
-        );
-        put_split(t, 0, 27, e, s);
-    }
+    change_each(t, |e, s| plus(s, constants, block, e));
 }
 
 // The same for two blocks, one after the other: each sum is loaded and stored once for both.
@@ -75,14 +78,10 @@ fn add_two(t: &mut [f64; 54], constants: &[f64], one: Block, two: Block)
     ensures { WroteSplit t.old t.new 0 27 27
         (λ e. with_block constants.now two e (with_block constants.now one e (split t.old 0 27 e))) }
 {
-    for e in 0..27 {
-        let s = cmplx_add(
-            get_split(t, 0, 27, e),
-            cmplx_scale(one.z, constants[one.base + e]),
-        );
-        let r = cmplx_add(s, cmplx_scale(two.z, constants[two.base + e]));
-        put_split(t, 0, 27, e, r);
-    }
+    change_each(
+        t,
+        |e, s| plus(plus(s, constants, one, e), constants, two, e),
+    );
 }
 
 // Adds the block that waits, if one does.

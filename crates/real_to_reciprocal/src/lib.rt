@@ -4,6 +4,7 @@
 pub mod blocks;
 pub mod elements;
 pub mod phases;
+pub mod sums;
 pub mod supercell;
 
 ghost use Rattle.std.specs.Prelude.{◌≡◌, ◌*◌, ◌≤◌, length};
