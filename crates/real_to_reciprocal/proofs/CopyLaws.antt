@@ -12,7 +12,7 @@ use borrow.Author.Count.{below_more}
 use borrow.Author.Tests.{eq-eqb, ne_eqb}
 use Rattle.phonon.specs.Number.{index, int, fold}
 use Rattle.phonon.proofs.Laws.{fold_add, fold_step}
-use Rattle.std.specs.Prelude.{Option, None, Some, MatchOption, ⊤}
+use Rattle.std.specs.Prelude.{Option, None, Some, ⊤}
 use Rattle.real_to_reciprocal.specs.Copies.{FirstCopy, place, NextCopy}
 
 -- turns that change nothing
@@ -63,16 +63,3 @@ module _ (s2p : List ℤ) (S y from : ℕ) where
   pub next_first : (o : Option ℕ) → NextCopy s2p S y from o → FirstCopy s2p S y from (place S o)
   next_first (Some k) c = c.0
   next_first None c = c
-
-  -- an entry r of a table of copies
-  pub next_of : {r : ℕ} (o : Option ℕ) → MatchOption o (S ≤ r) (λ k. (k ≡ r) × (k < S)) → FirstCopy s2p S y from r → NextCopy s2p S y from o
-  next_of (Some k) m c = (copy_at m.0 c, m.1)
-  next_of None m c = copy_at (let l = c.within in omega arith) c
-
--- a table of first copies, one entry more
-pub copies_more : {n v : ℕ} (s2p : List ℤ) (S : ℕ) (goal from : ℕ → ℕ) (l : List ℕ) → n < length l → ((a : ℕ) → a < n → FirstCopy s2p S (goal a) (from a) (get_or l a 0)) → FirstCopy s2p S (goal n) (from n) v
-    → (a : ℕ) → a < n + 1 → FirstCopy s2p S (goal a) (from a) (get_or (set l n v) a 0)
-copies_more {n} {v} s2p S goal from l room h c =
-    below_more (λ a. FirstCopy s2p S (goal a) (from a) (get_or (set l n v) a 0)) n
-    (λ a q. copy_at (get_or-set_other l n a v 0 (λ (e : a ≡ n). omega arith)) (h a q))
-    (copy_at (get_or-set_same l n v 0 room) c)

@@ -14,6 +14,7 @@ use phonon::{Anchoring, Complex, Leg, Legs};
 use planes::{get_split, put_split};
 
 // The sum of three numbers from 0.0 on, over 3.0.
+#[tactic(auto, unfolding(phonon::specs::RealToReciprocal::over3))]
 fn mean(a: Complex, b: Complex, c: Complex) -> Complex
     ensures { result ≡ Def.over3 (cadd (cadd (cadd czero a) b) c) }
 {

@@ -18,6 +18,7 @@ use planes::{index_at, put_split};
 const PI: f64 = 3.141592653589793;
 
 // Component c of grid point g's address, over the mesh.
+#[tactic(auto, unfolding(phonon::specs::RealToReciprocal::address_over))]
 fn address_over(grid: &Grid<'_>, g: usize, c: usize) -> f64
     requires { (c < 3) × (3 * g + 3 ≤ length grid.now.addresses.now) }
     ensures { result ≡ Def.address_over (grid_of grid.now) g c }
@@ -26,6 +27,7 @@ fn address_over(grid: &Grid<'_>, g: usize, c: usize) -> f64
 }
 
 // Component k of the q of grid point g: a row of the q matrix times the address over the mesh.
+#[tactic(auto, unfolding(phonon::specs::RealToReciprocal::q_entry))]
 fn q_entry(grid: &Grid<'_>, g: usize, k: usize) -> f64
     requires { (k < 3) × (3 * g + 3 ≤ length grid.now.addresses.now) }
     ensures { result ≡ Def.q_entry (grid_of grid.now) g k }
@@ -36,6 +38,7 @@ fn q_entry(grid: &Grid<'_>, g: usize, k: usize) -> f64
 }
 
 // The q of grid point g.
+#[tactic(auto, unfolding(phonon::specs::RealToReciprocal::q_at, phonon::specs::Number::table, phonon::specs::Number::table_from))]
 pub fn compute_q_vec(grid: &Grid<'_>, g: usize) -> [f64; 3]
     requires { 3 * g + 3 ≤ length grid.now.addresses.now }
     ensures { result ≡ Def.q_at (grid_of grid.now) g }
@@ -48,6 +51,7 @@ pub fn compute_q_vec(grid: &Grid<'_>, g: usize) -> [f64; 3]
 }
 
 // The phase of vector v.
+#[tactic(auto, unfolding(phonon::specs::RealToReciprocal::phase))]
 pub fn phase(q: &[f64; 3], vectors: &[f64], v: usize) -> f64
     requires { 3 * v + 3 ≤ length vectors.now }
     ensures { result ≡ Def.phase q.now vectors.now v }
@@ -66,6 +70,7 @@ fn as_complex(p: SinCos) -> Complex
 }
 
 // The cosine and the sine of x.
+#[tactic(auto, unfolding(phonon::specs::RealToReciprocal::cis))]
 fn cis(x: f64) -> Complex
     ensures { result ≡ Def.cis x }
 {
@@ -74,6 +79,7 @@ fn cis(x: f64) -> Complex
 
 // The sums of the three legs with the factors of one vector more, whose phases at the three q are x. Worked at once they
 // do not wait for one another.
+#[tactic(auto, unfolding(phonon::specs::RealToReciprocal::cis))]
 fn add_factors(sum: Legs<Complex>, x: Legs<f64>) -> Legs<Complex>
     ensures { (result.leg0 ≡ cadd sum.leg0 (Def.cis x.leg0))
         × (result.leg1 ≡ cadd sum.leg1 (Def.cis x.leg1))

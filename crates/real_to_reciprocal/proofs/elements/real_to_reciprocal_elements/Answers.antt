@@ -34,9 +34,6 @@ add_pair-held-requires c =
       c.loop-third.invariant.1.room,
     )
 
-pub copy_after-third-requires : goal.copy_after-third-requires
-copy_after-third-requires c = (rw c.in-Some-third.is at c.loop-third.invariant.0).0
-
 pub loop-third-preserved : goal.loop-third-preserved
 loop-third-preserved c =
     let k = c.in-Some-third.k in
@@ -44,9 +41,6 @@ loop-third-preserved c =
     let s = rw c.in-Some-third.is at c.loop-third.invariant.1 in
     let n = c.copy_after-third.ensures in
     (rw e at (next_at _ _ _ _ _ n), k_turn _ _ _ _ _ _ _ _ _ _ _ _ c.in-Some.j k s c.add_pair-held.ensures e (next_first _ _ _ _ _ n))
-
-pub copy_after-second-requires : goal.copy_after-second-requires
-copy_after-second-requires c = (rw c.in-Some.is at c.loop-second.invariant.0).0
 
 pub loop-second-preserved : goal.loop-second-preserved
 loop-second-preserved c =
