@@ -46,10 +46,6 @@ module _ {A : Type 0} (s2p : List ℤ) (S y : ℕ) (s : A) (step : ℕ → A →
       let d : FirstCopy s2p S y (k + 1) r = rw e at c in
       sym (fold_pass (k + 1) r s (at_copies s2p y step) d.above (λ i p q x. idle i (d.passed i p q) x) ∙ fold_step k s (at_copies s2p y step) ∙ rw (eq-eqb _ _ e))
 
--- the same copy by another name
-pub copy_at : {s2p : List ℤ} {S y from r r' : ℕ} → r' ≡ r → FirstCopy s2p S y from r → FirstCopy s2p S y from r'
-copy_at {s2p} {S} {y} {from} e c = subst (λ (n : ℕ). FirstCopy s2p S y from n) (sym e) c
-
 -- where a walk stands: at a copy of y, or behind all
 abbrev pub At : List ℤ → ℕ → ℕ → Option ℕ → Type 0
 At s2p S y (Some k) = (k < S) × (index (int s2p k) ≡ y)

@@ -15,10 +15,6 @@ module _ {constants t : List Float} {f : ℕ → Complex} where
   pub settled_none : Cols t 27 f → Settled constants t None f
   settled_none s = record { size = s.size; room = tt; sum = s.col }
 
-  -- sums that are written anew, beside which nothing waits
-  pub settled_wrote : {t' : List Float} → length t ≡ 54 → WroteSplit t t' 0 27 27 f → Settled constants t' None f
-  settled_wrote l w = record { size = w.size ∙ l; room = tt; sum = w.inside }
-
 module _ {constants t : List Float} {h : Option Block} {f : ℕ → Complex} where
   -- the same sums by another name
   pub settled_ext : {g : ℕ → Complex} → Settled constants t h f → ((e : ℕ) → e < 27 → f e ≡ g e) → Settled constants t h g
