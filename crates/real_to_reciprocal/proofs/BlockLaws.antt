@@ -15,21 +15,10 @@ use Rattle.planes.specs.Split.{split, WroteSplit, Cols}
 use Rattle.planes.proofs.SplitLaws.{split_next, split_at}
 use Rattle.planes.proofs.ColsLaws.{cols_step, cols_ext}
 
-pub times_of : {r a a' : Complex} (z : Complex) → r ≡ cmul a z → a ≡ a' → r ≡ cmul a' z
-times_of z p e = p ∙ rw e
-
 -- element e of the mean of three legs' numbers
 abbrev pub mean_at : List Float → List Float → List Float → ℕ → Complex
 mean_at first second third e =
     over3 (cadd (cadd (cadd czero (split first 0 27 e)) (split second 0 27 (e % 9 / 3 * 9 + e / 9 * 3 + e % 3))) (split third 0 27 (e % 3 * 9 + e % 9 / 3 * 3 + e / 9)))
-
-pub mean_of : {t a b c a' b' c' : Complex} → t ≡ over3 (cadd (cadd (cadd czero a) b) c) → a ≡ a' → b ≡ b' → c ≡ c' → t ≡ over3 (cadd (cadd (cadd czero a') b') c')
-mean_of h ea eb ec = h ∙ rw (ea, eb, ec)
-
--- number n of a run that starts at off, before it is written, counted from the start of the planes
-pub run_next : {l l₁ : List Float} {off d n : ℕ} {f : ℕ → Complex} → WroteSplit l l₁ off d n f → n < d → split l₁ 0 d (off + n) ≡ split l 0 d (off + n)
-run_next {l} {l₁} {off} {d} {n} w h =
-    split_at l₁ 0 off d (off + n) n (omega arith) ∙ split_next w n (omega arith) h ∙ split_at l off 0 d n (off + n) (omega arith)
 
 -- sums times a pre-factor
 pub product_of : {t t₁ : List Float} {f : ℕ → Complex} {z y : Complex} → Cols t 27 f → WroteSplit t t₁ 0 27 27 (λ e. cmul (split t 0 27 e) z) → z ≡ y → Cols t₁ 27 (λ e. cmul (f e) y)

@@ -12,7 +12,8 @@ use borrow.Author.Count.{below_more}
 use borrow.Author.Tests.{eq-eqb, ne_eqb}
 use Rattle.phonon.specs.Number.{index, int, fold}
 use Rattle.phonon.proofs.Laws.{fold_add, fold_step}
-use Rattle.real_to_reciprocal.specs.Copies.{FirstCopy}
+use Rattle.std.specs.Prelude.{Option, None, Some, ⊤}
+use Rattle.real_to_reciprocal.specs.Copies.{FirstCopy, place, NextCopy}
 
 -- turns that change nothing
 pub fold_idle : {A : Type 0} (n : ℕ) (s : A) (f : ℕ → A → A) → ((i : ℕ) → i < n → (x : A) → f i x ≡ x) → fold n s f ≡ s
@@ -45,14 +46,16 @@ module _ {A : Type 0} (s2p : List ℤ) (S y : ℕ) (s : A) (step : ℕ → A →
       let d : FirstCopy s2p S y (k + 1) r = rw e at c in
       sym (fold_pass (k + 1) r s (at_copies s2p y step) d.above (λ i p q x. idle i (d.passed i p q) x) ∙ fold_step k s (at_copies s2p y step) ∙ rw (eq-eqb _ _ e))
 
--- the same copy by another name
-pub copy_at : {s2p : List ℤ} {S y from r r' : ℕ} → r' ≡ r → FirstCopy s2p S y from r → FirstCopy s2p S y from r'
-copy_at {s2p} {S} {y} {from} e c = subst (λ (n : ℕ). FirstCopy s2p S y from n) (sym e) c
+-- where a walk stands: at a copy of y, or behind all
+abbrev pub At : List ℤ → ℕ → ℕ → Option ℕ → Type 0
+At s2p S y (Some k) = (k < S) × (index (int s2p k) ≡ y)
+At s2p S y None = ⊤
 
--- a table of first copies, one entry more
-pub copies_more : {n v : ℕ} (s2p : List ℤ) (S : ℕ) (goal from : ℕ → ℕ) (l : List ℕ) → n < length l → ((a : ℕ) → a < n → FirstCopy s2p S (goal a) (from a) (get_or l a 0)) → FirstCopy s2p S (goal n) (from n) v
-    → (a : ℕ) → a < n + 1 → FirstCopy s2p S (goal a) (from a) (get_or (set l n v) a 0)
-copies_more {n} {v} s2p S goal from l room h c =
-    below_more (λ a. FirstCopy s2p S (goal a) (from a) (get_or (set l n v) a 0)) n
-    (λ a q. copy_at (get_or-set_other l n a v 0 (λ (e : a ≡ n). omega arith)) (h a q))
-    (copy_at (get_or-set_same l n v 0 room) c)
+module _ (s2p : List ℤ) (S y from : ℕ) where
+  pub next_at : (o : Option ℕ) → NextCopy s2p S y from o → At s2p S y o
+  next_at (Some k) c = (c.1, c.0.copy c.1)
+  next_at None c = tt
+
+  pub next_first : (o : Option ℕ) → NextCopy s2p S y from o → FirstCopy s2p S y from (place S o)
+  next_first (Some k) c = c.0
+  next_first None c = c

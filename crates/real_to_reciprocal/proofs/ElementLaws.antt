@@ -16,7 +16,8 @@ use Rattle.phonon.specs.RealToReciprocal.{passes, row_of, entry, pair_taken, pai
 use Rattle.phonon.proofs.Laws.{fold_ext}
 use Rattle.planes.specs.Split.{split}
 use Rattle.planes.proofs.ColsLaws.{cols_zero}
-use Rattle.real_to_reciprocal.specs.declared.elements.Held.{Held}
+use Rattle.std.specs.Prelude.{Option, None}
+use Rattle.real_to_reciprocal.specs.declared.elements.Block.{Block}
 use Rattle.real_to_reciprocal.specs.Copies.{FirstCopy}
 use Rattle.real_to_reciprocal.specs.Pair.{pair_step, with_held, Settled}
 use Rattle.real_to_reciprocal.proofs.CopyLaws.{fold_idle, at_copies, walk_start, walk_turn}
@@ -38,17 +39,17 @@ module _ (shortest nonzero : List ℕ) (constants : List Float) (g : Leg) (p r :
   abbrev pub turns : ℕ → ℕ → ℕ → Complex
   turns j n e = k_turns j e n (j_turns j e)
 
-  pub j_start : {h : Held} {j : ℕ} → h.waits ≡ false → h.base + 27 ≤ length constants → FirstCopy s2p S x 0 j → Settled constants (replicate 54 f0) h (j_turns j)
-  j_start n room c = settled_none n room (cols_zero 27 _ (λ e l. walk_start s2p S x czero (λ j s. k_turns j e S s) c))
+  pub j_start : {j : ℕ} → FirstCopy s2p S x 0 j → Settled constants (replicate 54 f0) None (j_turns j)
+  j_start c = settled_none (cols_zero 27 _ (λ e l. walk_start s2p S x czero (λ j s. k_turns j e S s) c))
 
-  pub k_start : {t : List Float} {h : Held} (j : ℕ) {k : ℕ} → Settled constants t h (j_turns j) → FirstCopy s2p S y 0 k → Settled constants t h (turns j k)
+  pub k_start : {t : List Float} {h : Option Block} (j : ℕ) {k : ℕ} → Settled constants t h (j_turns j) → FirstCopy s2p S y 0 k → Settled constants t h (turns j k)
   k_start j s c = settled_ext s (λ e l. walk_start s2p S y (j_turns j e) (pair_at j e) c)
 
-  pub k_turn : {t t' : List Float} {h h' : Held} (j k : ℕ) {n : ℕ} → Settled constants t h (turns j k) → Settled constants t' h' (λ e. pair_at j e k (with_held constants h e (split t 0 27 e)))
+  pub k_turn : {t t' : List Float} {h h' : Option Block} (j k : ℕ) {n : ℕ} → Settled constants t h (turns j k) → Settled constants t' h' (λ e. pair_at j e k (with_held constants h e (split t 0 27 e)))
       → index (int s2p k) ≡ y → FirstCopy s2p S (index (int s2p k)) (k + 1) n → Settled constants t' h' (turns j n)
   k_turn j k s v q c = settled_ext v (λ e l. ap (pair_at j e k) (s.sum e l) ∙ walk_turn s2p S y (j_turns j e) (pair_at j e) k q c)
 
-  pub j_turn : {t : List Float} {h : Held} (j : ℕ) {n : ℕ} → Settled constants t h (turns j S) → index (int s2p j) ≡ x → FirstCopy s2p S (index (int s2p j)) (j + 1) n → Settled constants t h (j_turns n)
+  pub j_turn : {t : List Float} {h : Option Block} (j : ℕ) {n : ℕ} → Settled constants t h (turns j S) → index (int s2p j) ≡ x → FirstCopy s2p S (index (int s2p j)) (j + 1) n → Settled constants t h (j_turns n)
   j_turn j s q c = settled_ext s (λ e l. walk_turn s2p S x czero (λ j s. k_turns j e S s) j q c)
 
 -- tests in turn, as one

@@ -13,9 +13,6 @@ use Rattle.phonon.specs.Common.{cadd, cmul, scale}
 use Rattle.phonon.specs.RealToReciprocal.{passes, factor, entry, term}
 use Rattle.real_to_reciprocal.specs.Pair.{pair_step}
 
-pub add_of : {r a b a' b' : Complex} → r ≡ cadd a b → a ≡ a' → b ≡ b' → r ≡ cadd a' b'
-add_of p e f = p ∙ rw (e, f)
-
 module _ (shortest nonzero : List ℕ) (constants : List Float) (g : Leg) (p r : ℕ → Complex) (S i row j k e : ℕ) (t : Complex) where
   abbrev step : Complex
   step = pair_step shortest nonzero constants g p r S i row j k e t

@@ -8,7 +8,7 @@ use lib.ListN.{length}
 use lib.Ieee.{Float}
 use Rattle.phonon.specs.declared.Complex.{Complex}
 use Rattle.phonon.specs.Number.{◌⊕◌, ◌⊗◌, ◌⊘◌, f0, f1, f2, float, index, at, int, fold}
-use Rattle.phonon.specs.Sets.{Legs}
+use Rattle.phonon.specs.declared.Legs.{Legs}
 use Rattle.phonon.specs.Common.{czero, cadd, scale}
 use Rattle.phonon.specs.RealToReciprocal.{pi, phase, cis, phase_factor, phase_factor_entry, pre_phase, anchor_vector, pre_factor_entry}
 use Rattle.phonon.proofs.Laws.{fold_step, div_of, mod_of}

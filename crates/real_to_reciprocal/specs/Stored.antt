@@ -2,6 +2,7 @@
 use Rattle.std.specs.Prelude.{◌≡◌, List, ℕ, ◌+◌, ◌*◌, ◌/◌, ◌%◌, ◌<◌, ◌≤◌, Float}
 use Rattle.phonon.specs.declared.Anchoring.{Anchoring}
 use Rattle.phonon.specs.declared.Complex.{Complex}
+use Rattle.phonon.specs.declared.Legs.{Legs}
 use Rattle.phonon.specs.Sets.{Forces}
 use Rattle.phonon.specs.RealToReciprocal.{Factors, anchored}
 use Rattle.planes.specs.Split.{split}
@@ -29,10 +30,23 @@ pub record Stored (l l' : List Float) (fo P : ℕ) (In : ℕ → ℕ → ℕ →
   pub inside : (al bm cn : ℕ) → al < 3 * P → bm < 3 * P → cn < 3 * P → In al bm cn → constant_at l' fo P al bm cn ≡ f al bm cn
   pub other : (al bm cn : ℕ) → al < 3 * P → bm < 3 * P → cn < 3 * P → (In al bm cn → ⊥) → constant_at l' fo P al bm cn ≡ constant_at l fo P al bm cn
 
--- the pre-factors from po on, and the phase factors of the three legs from f0, f1 and f2 on
-abbrev pub factors_in : List Float → ℕ → ℕ → ℕ → ℕ → ℕ → ℕ → Factors
-factors_in l po f0 f1 f2 P S =
-    record { pre = split l po P; legs = record { leg0 = split l f0 (P * S); leg1 = split l f1 (P * S); leg2 = split l f2 (P * S) } }
+-- the pre-factors from po on, and the phase factors of the three legs from f on
+abbrev pub factors_in : List Float → ℕ → Legs ℕ → ℕ → ℕ → Factors
+factors_in l po f P S =
+    record { pre = split l po P; legs = record { leg0 = split l f.leg0 (P * S); leg1 = split l f.leg1 (P * S); leg2 = split l f.leg2 (P * S) } }
+
+-- where they begin, all of them below e
+pub record FactorsBelow (e po : ℕ) (f : Legs ℕ) (P S : ℕ) : Type 0 where
+  pub pre : po + 2 * P ≤ e
+  pub leg0 : f.leg0 + 2 * (P * S) ≤ e
+  pub leg1 : f.leg1 + 2 * (P * S) ≤ e
+  pub leg2 : f.leg2 + 2 * (P * S) ≤ e
+
+-- three of P atoms
+pub record AtomsBelow (P : ℕ) (atoms : Legs ℕ) : Type 0 where
+  pub first : atoms.leg0 < P
+  pub second : atoms.leg1 < P
+  pub third : atoms.leg2 < P
 
 -- entry (al, bm, cn), by the atoms and the directions of its components
 unfoldable pub component_at : ℕ → Anchoring → Forces → Factors → ℕ → ℕ → ℕ → Complex

@@ -4,69 +4,60 @@
 pub mod blocks;
 pub mod elements;
 pub mod phases;
+pub mod sums;
+pub mod supercell;
 
-ghost use Rattle.std.specs.Prelude.{◌≡◌, ◌+◌, ◌*◌, ◌≤◌, length};
-ghost use Rattle.phonon.specs.Sets.{forces_of};
+ghost use Rattle.std.specs.Prelude.{◌≡◌, ◌*◌, ◌≤◌, length};
+ghost use Rattle.phonon.specs.Handed.{forces_of};
 ghost use Rattle.phonon.specs.RealToReciprocal.{reciprocal_from};
 ghost use Rattle.planes.specs.Region.{SameOutside};
 ghost use Rattle.planes.specs.Layout.{constants_in, numbers_in};
 ghost use Rattle.real_to_reciprocal.specs.Shape.{Shaped};
-ghost use Rattle.real_to_reciprocal.specs.Stored.{region_end};
+ghost use Rattle.real_to_reciprocal.specs.Stored.{region_end, FactorsBelow};
 
 use crate::blocks::{block, store_block};
-use crate::elements::{first_copies, later_copies};
-use phonon::{Anchoring, Form};
+use crate::supercell::Supercell;
+use phonon::{Anchoring, Forces, Legs};
 
 // The force constants in reciprocal space, in the region of w from fo on. The pre-factors are in planes from po on,
-// the phase factors of the three legs from f0, f1 and f2 on, all below fo.
+// the phase factors of the three legs from f on, all below fo.
 pub fn real_to_reciprocal(
     w: &mut [f64],
     fo: usize,
     po: usize,
-    f0: usize,
-    f1: usize,
-    f2: usize,
-    form: Form,
+    f: Legs<usize>,
     anchoring: Anchoring,
-    p2s: &[i64],
-    s2p: &[i64],
-    shortest: &[u8],
-    nonzero: &[u8],
-    constants: &[f64],
+    forces: &Forces<'_>,
     np: usize,
     ns: usize,
 )
     requires { (np ≤ 256)
         × (ns ≤ 256)
-        × Shaped np ns (forces_of form p2s.now s2p.now shortest.now nonzero.now constants.now)
-        × (po + 2 * np ≤ fo)
-        × (f0 + 2 * (np * ns) ≤ fo)
-        × (f1 + 2 * (np * ns) ≤ fo)
-        × (f2 + 2 * (np * ns) ≤ fo)
+        × Shaped np ns (forces_of forces.now)
+        × FactorsBelow fo po f np ns
         × (region_end fo np ≤ length w.old) }
     ensures { (constants_in w.new fo np ≡ reciprocal_from np ns anchoring
-        (forces_of form p2s.now s2p.now shortest.now nonzero.now constants.now)
+        (forces_of forces.now)
         (numbers_in w.old po np np)
         (record {
-          leg0 = numbers_in w.old f0 (np * ns) (np * ns);
-          leg1 = numbers_in w.old f1 (np * ns) (np * ns);
-          leg2 = numbers_in w.old f2 (np * ns) (np * ns);
+          leg0 = numbers_in w.old f.leg0 (np * ns) (np * ns);
+          leg1 = numbers_in w.old f.leg1 (np * ns) (np * ns);
+          leg2 = numbers_in w.old f.leg2 (np * ns) (np * ns);
         }))
         × SameOutside w.old w.new fo (region_end fo np) }
 {
-    let mut first: [u16; 256] = [0; 256];
-    let mut later: [u16; 256] = [0; 256];
+    let cell = Supercell::of(*forces, np, ns);
     let mut t: [f64; 54] = [0.0; 54];
-    first_copies(&mut first, p2s, s2p, np, ns);
-    later_copies(&mut later, s2p, ns);
     for i in 0..np {
         for j in 0..np {
             for k in 0..np {
-                block(
-                    &mut t, w, po, f0, f1, f2, anchoring, form, p2s, s2p, shortest, nonzero,
-                    constants, &first, &later, np, ns, i, j, k,
-                );
-                store_block(w, fo, np, i, j, k, &t);
+                let atoms = Legs {
+                    leg0: i,
+                    leg1: j,
+                    leg2: k,
+                };
+                block(&mut t, w, po, f, &cell, anchoring, atoms);
+                store_block(w, fo, np, atoms, &t);
             }
         }
     }

@@ -9,7 +9,7 @@ use Rattle.real_to_reciprocal.proofs.blocks.store_block.Goals as goal
 pub loop-l-preserved : goal.loop-l-preserved
 loop-l-preserved c =
     let l = c.loop-l.l in
-    let i = c.args.i in
+    let i = c.args.atoms.leg0 in
     let p = c.loop-l-test.true in
     let h : 3 * i + l + 1 ≡ 3 * i + (l + 1) = omega arith in (
       omega (arith, p),

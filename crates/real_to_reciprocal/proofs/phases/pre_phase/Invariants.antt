@@ -5,4 +5,4 @@ use Rattle.real_to_reciprocal.proofs.PhaseLaws.{pre_sum}
 use Rattle.real_to_reciprocal.proofs.phases.pre_phase.Given as goal
 
 abbrev pub invariant-loop-j : goal.invariant-loop-j
-invariant-loop-j l = (l.j ≤ 3) × (l.sum ≡ pre_sum l.vectors (record { leg0 = l.q0; leg1 = l.q1; leg2 = l.q2 }) l.v l.j)
+invariant-loop-j l = (l.j ≤ 3) × (l.sum ≡ pre_sum l.vectors l.q l.v l.j)
