@@ -47,10 +47,13 @@ pub fn check_bath(
     weights: IntegrationWeights<'_>,
     totals: usize,
 ) -> Result<(), Refusal>
-    ensures { number_of result ≡ lowest (bath_tests n bands bath weights.first.now weights.second.now totals) }
+    ensures { number_of result ≡ lowest (bath_tests n bands bath weights.entry.first.now weights.entry.second.now totals) }
 {
     let sized = (weights.first.len() == n) & (weights.second.len() == n) & (totals == bands);
     require(sized, Refusal::Length)?;
-    require(bath_finite(bath, weights.first, weights.second), Refusal::NotFinite)?;
+    require(
+        bath_finite(bath, weights.first, weights.second),
+        Refusal::NotFinite,
+    )?;
     require(bath_ok(bath), Refusal::Bath)
 }
