@@ -3,4 +3,4 @@ use Rattle.checks.proofs.AnswerLaws.{of_one}
 use Rattle.checks.proofs.groups.check_points.Goals as goal
 
 pub returns : goal.returns
-returns c = of_one _ _ (rw c.points_ok.ensures at c.require.ensures)
+returns c = of_one _ c.points_ok.ensures c.require.ensures

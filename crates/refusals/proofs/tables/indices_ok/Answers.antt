@@ -1,0 +1,39 @@
+-- The last atom and the last band, as signed numbers, are those of the definition, and each call told one of the tests.
+use Prim.Native.Nat.{◌-◌, ◌*◌}
+use native.Mathlib.Omega.{arith}
+use mathlib.Core.Path.{refl}
+use mir.ValLaws.{to_z_pos}
+use mir.Syntax.{w64}
+use Rattle.phonon.specs.Tests.{all_true, all_true_after}
+use Rattle.phonon.proofs.Accepted.{measured_facts}
+use Rattle.phonon.specs.Refusal.{indices_ok}
+use Rattle.refusals.proofs.tables.indices_ok.Goals as goal
+
+pub overflow_sub-last_atom : goal.overflow_sub-last_atom
+overflow_sub-last_atom c = let h = measured_facts _ c.requires.0 in omega arith
+
+pub overflow_cast-last_atom : goal.overflow_cast-last_atom
+overflow_cast-last_atom c = let h = measured_facts _ c.requires.0 in record { sfits = omega arith }
+
+pub overflow_mul-last_band : goal.overflow_mul-last_band
+overflow_mul-last_band c = let h = measured_facts _ c.requires.0 in omega arith
+
+pub overflow_sub-last_band : goal.overflow_sub-last_band
+overflow_sub-last_band c = let h = measured_facts _ c.requires.0 in omega arith
+
+pub overflow_cast-last_band : goal.overflow_cast-last_band
+overflow_cast-last_band c = let h = measured_facts _ c.requires.0 in record { sfits = omega arith }
+
+pub returns : goal.returns
+unfolding indices_ok all_true all_true_after
+returns c =
+    let h = measured_facts _ c.requires.0 in
+    let atom = to_z_pos w64 (c.args.m.supercell - 1) (omega arith) in
+    let band = to_z_pos w64 (3 * c.args.m.atoms - 1) (omega arith) in
+    rw (
+      rw atom at c.all_within.ensures,
+      rw atom at c.all_within-2.ensures,
+      rw band at c.all_within-3.ensures,
+      c.all_ranges.ensures,
+    )
+    refl
