@@ -7,11 +7,13 @@ use native.Mathlib.Nat.{mul-le-mul}
 use Rattle.phonon.specs.declared.Measures.{Measures}
 use Rattle.phonon.specs.declared.Form.{Form}
 use Rattle.phonon.specs.declared.Sizes.{Sizes}
+use Rattle.phonon.specs.declared.Refusal.{Refusal}
+use Rattle.phonon.specs.declared.Refusal.TheVariants.{Measure}
+use Rattle.std.specs.Prelude.{Ok, Err}
 use Rattle.phonon.specs.Limits.{list_ok, sizes_of}
 use Rattle.phonon.specs.Refusal.{measures_ok}
 use Rattle.phonon.proofs.Accepted.{measured_in, measured_facts}
 use Rattle.checks.specs.Small.{Small}
-use Rattle.checks.specs.declared.verdict.Measured.TheVariants.{Within, Beyond}
 use Rattle.checks.specs.Answers.{with_sizes, measured_of}
 
 -- document 01's limits are no wider
@@ -35,21 +37,21 @@ list_slots m form e p h =
 
 -- ---- what the check of the measures told
 
-within_by : (b : Bool) (z y : Sizes) → with_sizes b y ≡ Within z → (b ≡ true) × (z ≡ y)
+within_by : (b : Bool) (z y : Sizes) → with_sizes b y ≡ Ok z → (b ≡ true) × (z ≡ y)
 within_by true z y e = (refl, cc)
-within_by false z y e = absurd (let z : ◌≡◌ {A = ℕ} 0 1 = cc in omega arith)
+within_by false z y e = absurd cc
 
-pub within_told : (m : Measures) (form : Form) (z : Sizes) → measured_of m form ≡ Within z → (measures_ok m ≡ true) × (z ≡ sizes_of m form)
+pub within_told : (m : Measures) (form : Form) {z : Sizes} → measured_of m form ≡ Ok z → (measures_ok m ≡ true) × (z ≡ sizes_of m form)
 unfolding measured_of
-within_told m form z e = within_by (measures_ok m) z (sizes_of m form) e
+within_told m form {z} e = within_by (measures_ok m) z (sizes_of m form) e
 
-beyond_by : (b : Bool) (y : Sizes) → with_sizes b y ≡ Beyond → b ≡ false
-beyond_by true y e = cc
-beyond_by false y e = refl
+beyond_by : (b : Bool) (y : Sizes) (r : Refusal) → with_sizes b y ≡ Err r → (b ≡ false) × (r ≡ Measure)
+beyond_by true y r e = absurd cc
+beyond_by false y r e = (refl, cc)
 
-pub beyond_told : (m : Measures) (form : Form) → measured_of m form ≡ Beyond → measures_ok m ≡ false
+pub beyond_told : (m : Measures) (form : Form) {r : Refusal} → measured_of m form ≡ Err r → (measures_ok m ≡ false) × (r ≡ Measure)
 unfolding measured_of
-beyond_told m form e = beyond_by (measures_ok m) (sizes_of m form) e
+beyond_told m form {r} e = beyond_by (measures_ok m) (sizes_of m form) r e
 
 -- ---- no product of the measures wraps, by bounds that are wider than document 01's
 

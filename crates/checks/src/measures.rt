@@ -5,9 +5,9 @@ ghost use Rattle.phonon.specs.Refusal.{measures_ok};
 ghost use Rattle.checks.specs.Answers.{measured_of};
 
 use crate::sizes::sizes_of;
-use crate::verdict::Measured;
+use crate::verdict::require;
 use crate::{is_measured, limits};
-use phonon::{Form, Measures};
+use phonon::{Form, Measures, Refusal, Sizes};
 
 // The atoms are tested by themselves first, so that 3 * atoms fits.
 pub fn measures_ok(m: Measures) -> bool
@@ -23,14 +23,11 @@ pub fn measures_ok(m: Measures) -> bool
         & is_measured(1, limits::MOST_VECTORS, m.vectors)
 }
 
-pub fn check_measures(m: Measures, form: Form) -> Measured
+pub fn check_measures(m: Measures, form: Form) -> Result<Sizes, Refusal>
     ensures { result ≡ measured_of m form }
 {
-    if measures_ok(m) {
-        Measured::Within(sizes_of(m, form))
-    } else {
-        Measured::Beyond
-    }
+    require(measures_ok(m), Refusal::Measure)?;
+    Ok(sizes_of(m, form))
 }
 
 pub fn list_ok(list: usize) -> bool

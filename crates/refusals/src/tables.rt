@@ -1,136 +1,90 @@
 // Numbers 2 to 7 of the tables. Number 6 is checks::all_positive, and number 7 checks::values::cutoff_ok.
 ghost use Rattle.std.specs.Prelude.{◌≡◌, true, ◌*◌, length};
-ghost use Rattle.phonon.specs.Refusal.{lowest, measures_ok, indices_ok, tables_finite, mesh_ok, table_tests};
+ghost use Rattle.phonon.specs.Answers.{number_of};
+ghost use Rattle.phonon.specs.Handed.{crystal_of, grid_of, phonons_of, tables_of};
+ghost use Rattle.phonon.specs.Limits.{sizes_of};
+ghost use Rattle.phonon.specs.Tests.{all_true};
+ghost use Rattle.phonon.specs.Refusal.{lowest, measures_ok, table_lengths, indices_ok, tables_finite, mesh_ok, tests_of};
 
 use checks::limits;
 use checks::sizes::sizes_of;
 use checks::values::cutoff_ok;
-use phonon::{Form, Measures};
+use checks::verdict::require;
+use phonon::{Crystal, Grid, Measures, Phonons, Refusal, Tables};
+
+// 2: the lengths of all.
+fn lengths_ok(tables: &Tables<'_>) -> bool
+    requires { measures_ok tables.now.measures ≡ true }
+    ensures { result ≡ all_true (table_lengths tables.now.measures
+        (sizes_of tables.now.measures tables.now.crystal.forces.form) (crystal_of tables.now.crystal)
+        tables.now.grid.addresses.now tables.now.bands.now (phonons_of tables.now.phonons)) }
+{
+    let m = tables.measures;
+    let forces = tables.crystal.forces;
+    let z = sizes_of(m, forces.form);
+    (tables.grid.addresses.len() == z.addresses)
+        & (tables.crystal.vectors.len() == z.vectors)
+        & (tables.crystal.multiplicity.len() == z.multiplicity)
+        & (forces.p2s.len() == m.atoms)
+        & (forces.s2p.len() == m.supercell)
+        & (tables.crystal.masses.len() == m.atoms)
+        & (tables.bands.len() == m.first)
+        & (tables.phonons.frequencies.len() == z.frequencies)
+        & (tables.phonons.eigenvectors.len() == z.eigenvectors)
+        & (forces.shortest.len() == z.shortest)
+        & (forces.nonzero.len() == z.nonzero)
+        & (forces.constants.len() == z.constants)
+}
 
 // 3: p2s, s2p, bands and vector ranges.
-fn table_indices_ok(
-    m: Measures,
-    multiplicity: &[i64],
-    p2s: &[i64],
-    s2p: &[i64],
-    bands: &[i64],
-) -> bool
-    requires { (measures_ok m ≡ true) × (length multiplicity.now ≡ 2 * (m.supercell * m.atoms)) }
-    ensures { result ≡ indices_ok m multiplicity.now p2s.now s2p.now bands.now }
+fn indices_ok(m: Measures, crystal: &Crystal<'_>, bands: &[i64]) -> bool
+    requires { (measures_ok m ≡ true) × (length crystal.now.multiplicity.now ≡ 2 * (m.supercell * m.atoms)) }
+    ensures { result ≡ indices_ok m crystal.now.multiplicity.now crystal.now.forces.p2s.now
+        crystal.now.forces.s2p.now bands.now }
 {
     let atoms = m.atoms;
     let supercell = m.supercell;
-    let vectors = m.vectors;
     let last_atom = (supercell - 1) as i64;
     let last_band = (3 * atoms - 1) as i64;
-    checks::all_within(0, last_atom, p2s)
-        & checks::all_within(0, last_atom, s2p)
+    checks::all_within(0, last_atom, crystal.forces.p2s)
+        & checks::all_within(0, last_atom, crystal.forces.s2p)
         & checks::all_within(0, last_band, bands)
-        & checks::all_ranges(multiplicity, supercell, atoms, vectors)
+        & checks::all_ranges(crystal.multiplicity, supercell, atoms, m.vectors)
 }
 
 // 4: the cutoff and the tables.
-fn tables_finite(
-    cutoff: f64,
-    vectors: &[f64],
-    masses: &[f64],
-    frequencies: &[f64],
-    eigenvectors: &[f64],
-    constants: &[f64],
-) -> bool
-    ensures { result ≡ tables_finite cutoff vectors.now masses.now frequencies.now
-        eigenvectors.now constants.now }
+fn tables_finite(cutoff: f64, crystal: &Crystal<'_>, phonons: &Phonons<'_>) -> bool
+    ensures { result ≡ tables_finite cutoff crystal.now.vectors.now crystal.now.masses.now
+        phonons.now.frequencies.now phonons.now.eigenvectors.now crystal.now.forces.constants.now }
 {
     checks::is_finite(cutoff)
-        & checks::all_finite(vectors)
-        & checks::all_finite(masses)
-        & checks::all_finite(frequencies)
-        & checks::all_finite(eigenvectors)
-        & checks::all_finite(constants)
+        & checks::all_finite(crystal.vectors)
+        & checks::all_finite(crystal.masses)
+        & checks::all_finite(phonons.frequencies)
+        & checks::all_finite(phonons.eigenvectors)
+        & checks::all_finite(crystal.forces.constants)
 }
 
 // 5: the mesh, the q matrix and the addresses.
-fn mesh_ok(mesh: [i64; 3], matrix: [i64; 9], addresses: &[i64]) -> bool
-    ensures { result ≡ mesh_ok (record { mesh = mesh; matrix = matrix; addresses = addresses.now }) }
+fn mesh_ok(grid: &Grid<'_>) -> bool
+    ensures { result ≡ mesh_ok (grid_of grid.now) }
 {
-    checks::all_within(limits::LOWEST_MESH, limits::HIGHEST_MESH, &mesh)
-        & checks::all_within(limits::LOWEST_MATRIX, limits::HIGHEST_MATRIX, &matrix)
-        & checks::all_within(limits::LOWEST_ADDRESS, limits::HIGHEST_ADDRESS, addresses)
+    checks::all_within(limits::LOWEST_MESH, limits::HIGHEST_MESH, &grid.mesh)
+        & checks::all_within(limits::LOWEST_MATRIX, limits::HIGHEST_MATRIX, &grid.matrix)
+        & checks::all_within(limits::LOWEST_ADDRESS, limits::HIGHEST_ADDRESS, grid.addresses)
 }
 
-// All of them: the lowest number that fails, or 0. The measures have been checked before.
-pub fn tables_number(
-    m: Measures,
-    form: Form,
-    cutoff: f64,
-    mesh: [i64; 3],
-    matrix: [i64; 9],
-    addresses: &[i64],
-    vectors: &[f64],
-    multiplicity: &[i64],
-    p2s: &[i64],
-    s2p: &[i64],
-    masses: &[f64],
-    bands: &[i64],
-    frequencies: &[f64],
-    eigenvectors: &[f64],
-    shortest: &[u8],
-    nonzero: &[u8],
-    constants: &[f64],
-) -> u8
-    requires { measures_ok m ≡ true }
-    ensures { result ≡ lowest (table_tests m cutoff (record {
-      vectors = vectors.now;
-      multiplicity = multiplicity.now;
-      masses = masses.now;
-      forces = record {
-        form = form;
-        p2s = p2s.now;
-        s2p = s2p.now;
-        shortest = shortest.now;
-        nonzero = nonzero.now;
-        constants = constants.now;
-      };
-    }) (record { mesh = mesh; matrix = matrix; addresses = addresses.now }) bands.now
-        (record { frequencies = frequencies.now; eigenvectors = eigenvectors.now })) }
+// All of them. The measures have been checked before.
+pub fn check_tables(tables: &Tables<'_>) -> Result<(), Refusal>
+    requires { measures_ok tables.now.measures ≡ true }
+    ensures { number_of result ≡ lowest (tests_of (tables_of tables.now)) }
 {
-    let z = sizes_of(m, form);
-    let sized = (addresses.len() == z.addresses)
-        & (vectors.len() == z.vectors)
-        & (multiplicity.len() == z.multiplicity)
-        & (p2s.len() == m.atoms)
-        & (s2p.len() == m.supercell)
-        & (masses.len() == m.atoms)
-        & (bands.len() == m.first)
-        & (frequencies.len() == z.frequencies)
-        & (eigenvectors.len() == z.eigenvectors)
-        & (shortest.len() == z.shortest)
-        & (nonzero.len() == z.nonzero)
-        & (constants.len() == z.constants);
-    if !sized {
-        return 2;
-    }
-    if !table_indices_ok(m, multiplicity, p2s, s2p, bands) {
-        return 3;
-    }
-    if !tables_finite(
-        cutoff,
-        vectors,
-        masses,
-        frequencies,
-        eigenvectors,
-        constants,
-    ) {
-        return 4;
-    }
-    if !mesh_ok(mesh, matrix, addresses) {
-        return 5;
-    }
-    if !checks::all_positive(masses) {
-        return 6;
-    }
-    if !cutoff_ok(cutoff) {
-        return 7;
-    }
-    0
+    let crystal = &tables.crystal;
+    let cutoff = tables.settings.cutoff;
+    require(lengths_ok(tables), Refusal::Length)?;
+    require(indices_ok(tables.measures, crystal, tables.bands), Refusal::Index)?;
+    require(tables_finite(cutoff, crystal, &tables.phonons), Refusal::NotFinite)?;
+    require(mesh_ok(&tables.grid), Refusal::Mesh)?;
+    require(checks::all_positive(crystal.masses), Refusal::Mass)?;
+    require(cutoff_ok(cutoff), Refusal::Cutoff)
 }

@@ -1,111 +1,35 @@
 // Every test of a set for the one-triplet door. The phases are worked out only from tables and points that are
-// good. The lent buffers are told by their lengths.
-ghost use Rattle.std.specs.Prelude.{◌≡◌, List, Float, length};
+// good.
+ghost use Rattle.std.specs.Prelude.{◌≡◌};
+ghost use Rattle.phonon.specs.Answers.{number_of};
+ghost use Rattle.phonon.specs.Handed.{tables_of};
 ghost use Rattle.phonon.specs.Refusal.{triplet_refusal};
-ghost use Rattle.checks.specs.Answers.{checked_of};
 
 use crate::phases::phases_ok;
-use crate::tables::tables_number;
-use checks::groups::{points_number, slots_number};
+use crate::tables::check_tables;
+use checks::groups::{check_points, check_slots};
 use checks::measures::check_measures;
-use checks::verdict::{Checked, Measured, lower_of};
-use phonon::{Form, Measures, Settings, Symmetry};
+use checks::verdict::{lower_of, require};
+use phonon::{Refusal, Tables};
 
 pub fn check_triplet(
-    m: Measures,
-    settings: Settings,
-    form: Form,
-    symmetry: Symmetry,
-    mesh: [i64; 3],
-    matrix: [i64; 9],
+    tables: &Tables<'_>,
     triplet: [i64; 3],
-    addresses: &[i64],
-    vectors: &[f64],
-    multiplicity: &[i64],
-    p2s: &[i64],
-    s2p: &[i64],
-    masses: &[f64],
-    bands: &[i64],
-    frequencies: &[f64],
-    eigenvectors: &[f64],
-    shortest: &[u8],
-    nonzero: &[u8],
-    constants: &[f64],
     flags: &[u8],
-    strengths: usize,
-    work: usize,
-) -> Checked
-    ensures { (v w : List Float) → length v ≡ strengths → length w ≡ work
-        → result ≡ checked_of
-        (triplet_refusal (record {
-          tables = record {
-            measures = m;
-            settings = settings;
-            symmetry = symmetry;
-            crystal = record {
-              vectors = vectors.now;
-              multiplicity = multiplicity.now;
-              masses = masses.now;
-              forces = record {
-                form = form;
-                p2s = p2s.now;
-                s2p = s2p.now;
-                shortest = shortest.now;
-                nonzero = nonzero.now;
-                constants = constants.now;
-              };
-            };
-            grid = record { mesh = mesh; matrix = matrix; addresses = addresses.now };
-            bands = bands.now;
-            phonons = record { frequencies = frequencies.now; eigenvectors = eigenvectors.now };
-          };
-          triplet = triplet;
-          flags = flags.now;
-          strengths = v;
-          work = w;
-        })) m }
+    strengths: &[f64],
+    work: &[f64],
+) -> Result<(), Refusal>
+    ensures { number_of result ≡ triplet_refusal (record {
+      tables = tables_of tables.now;
+      triplet = triplet;
+      flags = flags.now;
+      strengths = strengths.now;
+      work = work.now;
+    }) }
 {
-    let Measured::Within(z) = check_measures(m, form) else {
-        return Checked::Bad(1);
-    };
-    let tables = tables_number(
-        m,
-        form,
-        settings.cutoff,
-        mesh,
-        matrix,
-        addresses,
-        vectors,
-        multiplicity,
-        p2s,
-        s2p,
-        masses,
-        bands,
-        frequencies,
-        eigenvectors,
-        shortest,
-        nonzero,
-        constants,
-    );
-    let slots = slots_number(z.slots, z, flags, strengths, work);
-    let points = points_number(m.grid, &triplet);
-    let n = lower_of(tables, lower_of(slots, points));
-    if n != 0 {
-        return Checked::Bad(n);
-    }
-    if !phases_ok(
-        m.atoms,
-        m.supercell,
-        symmetry,
-        mesh,
-        matrix,
-        &triplet,
-        addresses,
-        vectors,
-        multiplicity,
-        p2s,
-    ) {
-        return Checked::Bad(9);
-    }
-    Checked::Good(m)
+    let z = check_measures(tables.measures, tables.crystal.forces.form)?;
+    let slots = check_slots(z.slots, z, flags, strengths.len(), work.len());
+    let points = check_points(tables.measures.grid, &triplet);
+    lower_of(check_tables(tables), lower_of(slots, points))?;
+    require(phases_ok(tables, &triplet), Refusal::Phase)
 }

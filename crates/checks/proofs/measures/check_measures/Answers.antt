@@ -3,20 +3,22 @@ use mathlib.Core.Bool.{true, false}
 use mathlib.Core.Path.{◌≡◌, refl, sym, ◌∙◌}
 use Rattle.phonon.specs.Refusal.{measures_ok}
 use Rattle.checks.specs.Answers.{measured_of}
+use Rattle.checks.proofs.AnswerLaws.{passed, failed, handed_on}
 use Rattle.checks.proofs.MeasureLaws.{small}
 use Rattle.checks.proofs.measures.check_measures.Goals as goal
 
+pub returns-in_err-require : goal.returns-in_err-require
+unfolding measured_of
+returns-in_err-require c =
+    let f = failed _ _ c.require.ensures c.in_err-require.was in
+    let e : measures_ok c.args.m ≡ false = sym c.measures_ok.ensures ∙ f.0 in
+    handed_on _ c.from_residual.ensures.1 ∙ rw (e, f.1) refl
+
 pub sizes_of-requires : goal.sizes_of-requires
-sizes_of-requires c = small _ (sym c.measures_ok.ensures ∙ c.if-measures_ok.true)
+sizes_of-requires c = small _ (sym c.measures_ok.ensures ∙ passed _ _ c.require.ensures c.in_ok-require.was)
 
-pub returns-then-measures_ok : goal.returns-then-measures_ok
+pub returns : goal.returns
 unfolding measured_of
-returns-then-measures_ok c =
-    let e : measures_ok c.args.m ≡ true = sym c.measures_ok.ensures ∙ c.if-measures_ok.true in
+returns c =
+    let e : measures_ok c.args.m ≡ true = sym c.measures_ok.ensures ∙ passed _ _ c.require.ensures c.in_ok-require.was in
     rw (e, c.sizes_of.ensures) refl
-
-pub returns-else-measures_ok : goal.returns-else-measures_ok
-unfolding measured_of
-returns-else-measures_ok c =
-    let e : measures_ok c.args.m ≡ false = sym c.measures_ok.ensures ∙ c.if-measures_ok.false in
-    rw e refl

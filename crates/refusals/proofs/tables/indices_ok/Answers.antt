@@ -7,7 +7,7 @@ use mir.Syntax.{w64}
 use Rattle.phonon.specs.Tests.{all_true, all_true_after}
 use Rattle.phonon.proofs.Accepted.{measured_facts}
 use Rattle.phonon.specs.Refusal.{indices_ok}
-use Rattle.refusals.proofs.tables.table_indices_ok.Goals as goal
+use Rattle.refusals.proofs.tables.indices_ok.Goals as goal
 
 pub overflow_sub-last_atom : goal.overflow_sub-last_atom
 overflow_sub-last_atom c = let h = measured_facts _ c.requires.0 in omega arith
