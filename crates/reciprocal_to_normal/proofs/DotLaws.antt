@@ -4,7 +4,7 @@ use Prim.Native.Nat.{ℕ, ◌+◌, ◌*◌, ◌/◌, ◌%◌, ◌<◌}
 use native.Mathlib.Nat.{div-add-mod}
 use native.Mathlib.Omega.{arith}
 use Rattle.phonon.specs.declared.Complex.{Complex}
-use Rattle.phonon.specs.Number.{fold, f0}
+use Rattle.phonon.specs.Number.{fold}
 use Rattle.phonon.specs.Common.{czero, cadd, cmul}
 use Rattle.phonon.specs.ReciprocalToNormal.{lane, dot}
 use Rattle.phonon.proofs.Laws.{fold_ext, fold_step}
