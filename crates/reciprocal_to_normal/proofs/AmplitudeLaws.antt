@@ -5,7 +5,6 @@ use Prim.Native.Nat.{ℕ, ◌+◌, ◌*◌, ◌<◌, ◌≤◌}
 use native.Mathlib.Nat.{mul-one}
 use native.Mathlib.Omega.{arith}
 use lib.Ieee.{Float}
-use Rattle.phonon.specs.declared.Complex.{Complex}
 use Rattle.phonon.specs.Number.{at}
 use Rattle.phonon.specs.Common.{czero, cat}
 use Rattle.phonon.specs.ReciprocalToNormal.{place, add_unless_zero, contract_turn, contract_entry, contract, dot, row_entry, rows, amplitude, strength_from, strength}

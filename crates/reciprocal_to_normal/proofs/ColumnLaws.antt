@@ -1,5 +1,5 @@
 -- Sums of columns, and rows that are written some columns at a time.
-use mathlib.Core.Path.{◌≡◌, refl, ap, ap₂, ◌∙◌}
+use mathlib.Core.Path.{◌≡◌, refl, ◌∙◌}
 use mathlib.Core.List.{List}
 use Prim.Native.Nat.{ℕ, ◌+◌, ◌*◌, ◌<◌, ◌≤◌}
 use native.Mathlib.Omega.{arith}
@@ -8,8 +8,7 @@ use lib.Seq.{get_or-set_same, get_or-set_other}
 use borrow.Author.Count.{below_more}
 use lib.Ieee.{Float, nan}
 use Rattle.phonon.specs.declared.Complex.{Complex}
-use Rattle.phonon.specs.Number.{at}
-use Rattle.planes.specs.Split.{split, WroteSplit}
+use Rattle.planes.specs.Split.{WroteSplit}
 use Rattle.planes.proofs.SplitLaws.{complex_eq, split_below}
 use Rattle.planes.proofs.RegionLaws.{split_append}
 use Rattle.planes.proofs.Products.{row_le}

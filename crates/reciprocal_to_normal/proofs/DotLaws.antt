@@ -3,9 +3,8 @@ use mathlib.Core.Path.{◌≡◌, refl, ap}
 use Prim.Native.Nat.{ℕ, ◌+◌, ◌*◌, ◌/◌, ◌%◌, ◌<◌}
 use native.Mathlib.Nat.{div-add-mod}
 use native.Mathlib.Omega.{arith}
-use lib.Ieee.{binary64, add, of_bits}
 use Rattle.phonon.specs.declared.Complex.{Complex}
-use Rattle.phonon.specs.Number.{fold, f0}
+use Rattle.phonon.specs.Number.{fold}
 use Rattle.phonon.specs.Common.{czero, cadd, cmul}
 use Rattle.phonon.specs.ReciprocalToNormal.{lane, dot}
 use Rattle.phonon.proofs.Laws.{fold_ext, fold_step}
@@ -44,20 +43,6 @@ module _ (a b : ℕ → Complex) where
   pub dot_done : (n : ℕ) → rest_to (n % 4) n a b ≡ dot n a b
   unfolding dot
   dot_done n = refl
-
-zero_zero : add binary64 f0 f0 ≡ f0
-unfolding add of_bits
-zero_zero = refl
-
--- three numbers have no partial sums
-pub dot_three : (a b : ℕ → Complex) → fold 3 czero (term a b) ≡ dot 3 a b
-unfolding dot lane fold cadd
-dot_three a b = rw (zero_zero, zero_zero)
-
--- six numbers: partial sums of one term each, and a remainder of two
-pub dot_six : (a b : ℕ → Complex) → term a b 5 (term a b 4 (cadd (cadd (term a b 0 czero) (term a b 1 czero)) (cadd (term a b 2 czero) (term a b 3 czero)))) ≡ dot 6 a b
-unfolding dot lane fold
-dot_six a b = refl
 
 four_lt : (n c t : ℕ) → c < n / 4 → t < 4 → 4 * c + t < n
 four_lt n c t p q = let e = div-add-mod n 4 in omega arith

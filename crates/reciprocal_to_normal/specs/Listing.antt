@@ -16,6 +16,10 @@ abbrev pub source_place : ℕ → List ℕ → ℕ → ℕ → ℕ → ℕ
 source_place B order x y z =
     (get_or (x ∷ y ∷ z ∷ []) (get_or order 0 0) 0 * B + get_or (x ∷ y ∷ z ∷ []) (get_or order 1 0) 0) * B + get_or (x ∷ y ∷ z ∷ []) (get_or order 2 0) 0
 
+-- an order of the three legs names each by a number below 3
+abbrev pub InOrder : List ℕ → Type 0
+InOrder order = (get_or order 0 0 < 3) × (get_or order 1 0 < 3) × (get_or order 2 0 < 3)
+
 -- slot n after a sixth of its number is added to `old`; the listing stands at `to` of l, and `band` names the first leg's bands
 unfoldable pub gathered : List Float → ℕ → ℕ → List ℕ → (ℕ → ℕ) → Float → ℕ → Float
 gathered l to B order band old n = old ⊕ at l (to + source_place B order (band (b_of B n)) (j_of B n) (k_of B n)) ⊘ f6

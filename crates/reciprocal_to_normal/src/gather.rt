@@ -1,16 +1,17 @@
 // What the slots of a symmetrized triplet gather of the full listing of each leg order.
-ghost use Rattle.std.specs.Prelude.{◌≡◌, true, cond, ◌+◌, ◌-◌, ◌*◌, ◌/◌, ◌%◌, ◌<◌, ◌≤◌, pos, length, get_or};
+ghost use Rattle.std.specs.Prelude.{◌≡◌, true, cond, ◌+◌, ◌-◌, ◌*◌, ◌/◌, ◌%◌, ◌<◌, ◌≤◌, pos, length};
 ghost use Rattle.phonon.specs.Number.{◌⊕◌, ◌⊘◌, f6, at, index, int, flagged, table};
 ghost use Rattle.phonon.specs.Tests.{all_within};
-ghost use Rattle.reciprocal_to_normal.specs.Slots.{Visited, InColumn, InPlane};
-ghost use Rattle.reciprocal_to_normal.specs.Listing.{source_place, gathered};
+ghost use Rattle.reciprocal_to_normal.specs.Slots.{Visited, InColumn, InPlane, InSlots};
+ghost use Rattle.reciprocal_to_normal.specs.Listing.{source_place, InOrder, gathered};
 
+use crate::plane::Column;
 use crate::slots::is_flagged;
 use planes::index_at;
 
 // The number of the full listing that the slot of bands x, y, z gathers.
 fn source_place(order: [usize; 3], nb: usize, x: usize, y: usize, z: usize) -> usize
-    requires { (nb ≤ 3000) × (get_or order 0 0 < 3) × (get_or order 1 0 < 3) × (get_or order 2 0 < 3) × (x < nb) × (y < nb) × (z < nb) }
+    requires { (nb ≤ 3000) × InOrder order × (x < nb) × (y < nb) × (z < nb) }
     ensures { (result ≡ source_place nb order x y z) × (result < nb * (nb * nb)) }
 {
     let bands: [usize; 3] = [x, y, z];
@@ -32,31 +33,27 @@ fn gather_slot(out: &mut [f64], flags: &[u8], i: usize, s: f64)
     out[i] = out[i] + s / 6.0;
 }
 
-// The slots (b, j, k) of all j, whose first band is n.
+// The slots of the column, whose first band is n.
 fn gather_column(
     out: &mut [f64],
     flags: &[u8],
     w: &[f64],
     to: usize,
     order: [usize; 3],
-    nb: usize,
     n: usize,
-    b: usize,
-    k: usize,
+    c: Column,
 )
-    requires sizes { (nb ≤ 3000)
-        × (n < nb)
-        × (k < nb)
-        × ((b + 1) * nb * nb ≤ length out.old)
+    requires sizes { InSlots c (length out.old)
+        × (n < c.bands)
         × (length out.old ≤ length flags.now)
-        × (to + nb * (nb * nb) ≤ length w.now) }
-    requires legs { (get_or order 0 0 < 3) × (get_or order 1 0 < 3) × (get_or order 2 0 < 3) }
+        × (to + c.bands * (c.bands * c.bands) ≤ length w.now) }
+    requires legs { InOrder order }
     ensures { Visited out.old out.new (flagged flags.now)
-        (λ m. gathered w.now to nb order (λ i. n) (at out.old m) m) (length out.old) (InColumn nb b k nb) }
+        (λ m. gathered w.now to c.bands order (λ i. n) (at out.old m) m) (length out.old) (InColumn c.bands c.b c.k c.bands) }
 {
-    for j in 0..nb {
-        let p = source_place(order, nb, n, j, k);
-        gather_slot(out, flags, (b * nb + j) * nb + k, w[to + p]);
+    for j in 0..c.bands {
+        let p = source_place(order, c.bands, n, j, c.k);
+        gather_slot(out, flags, c.slot(j), w[to + p]);
     }
 }
 
@@ -76,12 +73,12 @@ fn gather_plane(
         × ((b + 1) * nb * nb ≤ length out.old)
         × (length out.old ≤ length flags.now)
         × (to + nb * (nb * nb) ≤ length w.now) }
-    requires legs { (get_or order 0 0 < 3) × (get_or order 1 0 < 3) × (get_or order 2 0 < 3) }
+    requires legs { InOrder order }
     ensures { Visited out.old out.new (flagged flags.now)
         (λ m. gathered w.now to nb order (λ i. n) (at out.old m) m) (length out.old) (InPlane nb b nb) }
 {
     for k in 0..nb {
-        gather_column(out, flags, w, to, order, nb, n, b, k);
+        gather_column(out, flags, w, to, order, n, Column { bands: nb, b, k });
     }
 }
 
@@ -100,7 +97,7 @@ pub fn gather_sixth(
         × (length out.old ≡ length bands.now * (3 * np) * (3 * np))
         × (length flags.now ≡ length bands.now * (3 * np) * (3 * np))
         × (to + 3 * np * (3 * np * (3 * np)) ≤ length w.now) }
-    requires entries { (all_within (pos 0) (pos (3 * np - 1)) bands.now ≡ true) × (get_or order 0 0 < 3) × (get_or order 1 0 < 3) × (get_or order 2 0 < 3) }
+    requires entries { (all_within (pos 0) (pos (3 * np - 1)) bands.now ≡ true) × InOrder order }
     ensures { out.new ≡ table (length bands.now * (3 * np) * (3 * np))
         (λ n. cond (flagged flags.now n) (at out.old n)
         (at out.old n ⊕ at w.now

@@ -1,4 +1,7 @@
 // reciprocal_to_normal.rs: the strengths of a triplet's slots, from the force constants in reciprocal space.
+//
+// Loops count numbers, and are not over slices: what they read and what they write stands in one buffer, the caller's, at places that
+// are sums.
 #![tactic(auto)]
 
 pub mod columns;

@@ -23,7 +23,8 @@ pub fn is_flagged(flags: &[u8], i: usize) -> bool
     flags[i] != 0
 }
 
-// Whether the slots of the column are all flagged.
+// Whether the slots of the column are all flagged. A loop, which is as plain: to `all` the closure had to say by clauses that its slots
+// lie in the list.
 fn all_flagged(flags: &[u8], c: Column) -> bool
     requires { InSlots c (length flags.now) }
     ensures { result ≡ every_below (λ j. flagged flags.now (slot c.bands c.b j c.k)) c.bands }

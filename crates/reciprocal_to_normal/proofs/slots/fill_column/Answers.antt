@@ -2,7 +2,6 @@
 use mathlib.Core.Path.{sym, ap, ◌∙◌}
 use Prim.Native.Nat.{◌<◌}
 use lib.ListN.{length}
-use Rattle.phonon.specs.Number.{flagged}
 use Rattle.planes.specs.Split.{split}
 use Rattle.reciprocal_to_normal.specs.Slots.{strength_in}
 use Rattle.reciprocal_to_normal.proofs.SlotLaws.{visited_at, visited_put, visited_pass, column_step, at_slot}

@@ -1,5 +1,4 @@
 -- The slots below j are visited.
-use mathlib.Core.Path.{◌∙◌}
 use Rattle.phonon.specs.ReciprocalToNormal.{dot}
 use Rattle.planes.specs.Split.{split}
 use Rattle.reciprocal_to_normal.specs.Places.{number_in}
