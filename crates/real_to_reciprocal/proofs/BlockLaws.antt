@@ -1,7 +1,7 @@
 -- The 27 numbers of a block: products with pre-factors, and the mean of three legs.
-use mathlib.Core.Path.{◌≡◌, ◌∙◌}
+use mathlib.Core.Path.{◌≡◌}
 use mathlib.Core.List.{List}
-use Prim.Native.Nat.{ℕ, ◌+◌, ◌*◌, ◌/◌, ◌%◌, ◌<◌}
+use Prim.Native.Nat.{ℕ, ◌+◌, ◌*◌, ◌/◌, ◌%◌}
 use native.Mathlib.Omega.{arith}
 use lib.Ieee.{Float}
 use Rattle.phonon.specs.declared.Complex.{Complex}
@@ -12,7 +12,6 @@ use Rattle.phonon.specs.Common.{czero, cadd, cmul}
 use Rattle.phonon.specs.Sets.{Forces}
 use Rattle.phonon.specs.RealToReciprocal.{element, Factors, over3, plain_element, averaged_element, anchored}
 use Rattle.planes.specs.Split.{split, WroteSplit, Cols}
-use Rattle.planes.proofs.SplitLaws.{split_next, split_at}
 use Rattle.planes.proofs.ColsLaws.{cols_step, cols_ext}
 
 -- element e of the mean of three legs' numbers

@@ -1,18 +1,18 @@
 -- A fold that passes every supercell atom but the copies of y, walked from copy to copy.
-use mathlib.Core.Path.{◌≡◌, refl, sym, ap, ◌∙◌, subst}
+use mathlib.Core.Path.{◌≡◌, refl, sym, ap, ◌∙◌}
 use mathlib.Core.Bool.{cond}
 use mathlib.Core.List.{List}
 use Prim.Native.Nat.{ℕ, zero, suc, ◌+◌, ◌-◌, ◌<◌, ◌≤◌}
 use native.Mathlib.Omega.{arith}
-use lib.IntN.{ℤ}
+use lib.IntN.{ℤ, pos}
 use lib.Dec.{eqb}
-use lib.ListN.{length, get_or, set}
-use lib.Seq.{get_or-set_same, get_or-set_other}
-use borrow.Author.Count.{below_more}
 use borrow.Author.Tests.{eq-eqb, ne_eqb}
+use Rattle.std.specs.List.{AllWithin, HoldsAt}
+use Rattle.std.proofs.lemmas.List.{get_or-drop, take_all}
+use lib.ListN.{length, get_or, take, drop, length-drop}
 use Rattle.phonon.specs.Number.{index, int, fold}
 use Rattle.phonon.proofs.Laws.{fold_add, fold_step}
-use Rattle.std.specs.Prelude.{Option, None, Some, ⊤}
+use Rattle.std.specs.Prelude.{Option, None, Some, MatchOption, ⊤}
 use Rattle.real_to_reciprocal.specs.Copies.{FirstCopy, place, NextCopy}
 
 -- turns that change nothing
@@ -59,3 +59,46 @@ module _ (s2p : List ℤ) (S y from : ℕ) where
   pub next_first : (o : Option ℕ) → NextCopy s2p S y from o → FirstCopy s2p S y from (place S o)
   next_first (Some k) c = c.0
   next_first None c = c
+
+-- the first entry of the rest that is y, n places on
+module _ (s2p : List ℤ) (y from : ℕ) (l : from ≤ length s2p) where
+  abbrev pub Is : ℤ → Type 0
+  Is x = index x ≡ y
+
+  abbrev pub IsNot : ℤ → Type 0
+  IsNot x = index x ≡ y → ⊥
+
+  abbrev pub rest : List ℤ
+  rest = drop from s2p
+
+  pub rest_is : take (length s2p - from) rest ≡ rest
+  rest_is = take_all _ _ (let s = length-drop from s2p in omega (arith, s))
+
+  passed_rest : (n : ℕ) → AllWithin IsNot rest 0 n → (k : ℕ) → from ≤ k → k < from + n → index (int s2p k) ≡ y → ⊥
+  passed_rest n h k p q e =
+      let m : from + (k - from) ≡ k = omega arith in
+      h (k - from) (pos 0) (omega arith) (omega arith) (ap index (get_or-drop from s2p (k - from) (pos 0) ∙ ap (λ i. get_or s2p i (pos 0)) m) ∙ e)
+
+  -- what the search of the rest finds
+  abbrev pub Found : Option ℕ → Type 0
+  Found o = MatchOption o (AllWithin IsNot rest 0 (length rest)) (λ n. (n < length rest) × HoldsAt Is rest n × AllWithin IsNot rest 0 n)
+
+  pub found_rest : (n : ℕ) → (n < length rest) × HoldsAt Is rest n × AllWithin IsNot rest 0 n → FirstCopy s2p (length s2p) y from (from + n)
+  found_rest n h =
+      let s : length rest ≡ length s2p - from = length-drop from s2p in
+      record {
+        above = omega arith;
+        within = omega (arith, h.0, s);
+        passed = passed_rest n h.2;
+        copy = λ p. ap index (sym (get_or-drop from s2p n (pos 0))) ∙ h.1 (pos 0);
+      }
+
+  pub none_rest : AllWithin IsNot rest 0 (length rest) → FirstCopy s2p (length s2p) y from (length s2p)
+  none_rest h =
+      let s : length rest ≡ length s2p - from = length-drop from s2p in
+      record {
+        above = l;
+        within = omega arith;
+        passed = λ k p q. passed_rest (length rest) h k p (omega (arith, s, q));
+        copy = λ p. absurd (omega arith);
+      }

@@ -1,7 +1,7 @@
 -- The definitions read the pre-factors of P atoms and the phase factors of P * S pairs alone: factors that agree there give the same numbers.
 use mathlib.Core.Path.{◌≡◌, sym, ap, ap₂}
 use mathlib.Core.List.{List}
-use Prim.Native.Nat.{ℕ, ◌+◌, ◌*◌, ◌/◌, ◌<◌, ◌≤◌}
+use Prim.Native.Nat.{ℕ, ◌+◌, ◌*◌, ◌/◌, ◌<◌}
 use native.Mathlib.Omega.{arith}
 use lib.Ieee.{Float}
 use Rattle.phonon.specs.declared.Complex.{Complex}

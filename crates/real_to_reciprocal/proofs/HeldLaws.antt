@@ -1,14 +1,13 @@
 -- Sums beside which a block of force constants may wait to be added.
 use mathlib.Core.Path.{◌≡◌, ◌∙◌}
 use mathlib.Core.List.{List}
-use Prim.Native.Nat.{ℕ, ◌+◌, ◌<◌}
-use lib.ListN.{length}
+use Prim.Native.Nat.{ℕ, ◌<◌}
 use lib.Ieee.{Float}
-use Rattle.std.specs.Prelude.{Option, None, Some}
+use Rattle.std.specs.Prelude.{Option, None}
 use Rattle.phonon.specs.declared.Complex.{Complex}
 use Rattle.planes.specs.Split.{split, WroteSplit, Cols}
 use Rattle.real_to_reciprocal.specs.declared.elements.Block.{Block}
-use Rattle.real_to_reciprocal.specs.Pair.{HeldIn, with_held, Settled}
+use Rattle.real_to_reciprocal.specs.Pair.{with_held, Settled}
 
 module _ {constants t : List Float} {f : ℕ → Complex} where
   -- sums beside which nothing waits

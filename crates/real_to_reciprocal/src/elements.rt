@@ -78,10 +78,10 @@ fn add_two(t: &mut [f64; 54], constants: &[f64], one: Block, two: Block)
     ensures { WroteSplit t.old t.new 0 27 27
         (λ e. with_block constants.now two e (with_block constants.now one e (split t.old 0 27 e))) }
 {
-    change_each(
-        t,
-        |e, s| plus(plus(s, constants, one, e), constants, two, e),
-    );
+    change_each(t, |e, s| {
+        let r = plus(s, constants, one, e);
+        plus(r, constants, two, e)
+    });
 }
 
 // Adds the block that waits, if one does.

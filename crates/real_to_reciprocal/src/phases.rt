@@ -188,6 +188,7 @@ pub fn pre_phase(vectors: &[f64], q: &Legs<[f64; 3]>, v: usize) -> f64
     requires { 3 * v + 3 ≤ length vectors.now }
     ensures { result ≡ Def.pre_phase vectors.now q.now v }
 {
+    // By places: four arrays are read, and their zip reads no plainer.
     let mut sum = 0.0;
     for j in 0..3 {
         sum = sum + vectors[3 * v + j] * (q.leg0[j] + q.leg1[j] + q.leg2[j]);

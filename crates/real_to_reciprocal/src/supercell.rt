@@ -6,19 +6,17 @@ ghost use Rattle.real_to_reciprocal.specs.Shape.{Shaped};
 ghost use Rattle.real_to_reciprocal.specs.Copies.{FirstCopy, FirstCopies, LaterCopies, NextCopy};
 
 use phonon::Forces;
-use planes::index_at;
+use planes::{index_at, index_of};
 
 // The first copy of supercell atom y from `from` on, or their number where there is none.
 fn next_copy(s2p: &[i64], y: usize, from: usize) -> usize
     requires { from ≤ length s2p.now }
     ensures { FirstCopy s2p.now (length s2p.now) y from result }
 {
-    for k in from..s2p.len() {
-        if index_at(s2p, k) == y {
-            return k;
-        }
+    match s2p[from..].iter().position(|x| index_of(*x) == y) {
+        Some(n) => from + n,
+        None => s2p.len(),
     }
-    s2p.len()
 }
 
 // Entry n of a table of copies among ns supercell atoms.
@@ -49,6 +47,7 @@ impl<'a> Supercell<'a> {
         requires { (np ≤ 256) × (ns ≤ 256) × Shaped np ns (forces_of forces) }
         ensures { (result.forces ≡ forces.entry) × (result.np ≡ np) × (result.ns ≡ ns) }
     {
+        // By places: a table is longer than what is filled of it.
         let mut first: [u16; 256] = [0; 256];
         for a in 0..np {
             first[a] = next_copy(forces.s2p, index_at(forces.p2s, a), 0) as u16;

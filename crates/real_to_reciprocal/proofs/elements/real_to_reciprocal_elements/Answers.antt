@@ -1,10 +1,8 @@
 -- The sums over pairs: the outer loop has the turns of all j that it came past, the inner one also those of k, from copy to copy.
-use mathlib.Core.Path.{◌≡◌, ◌∙◌}
 use native.Mathlib.Omega.{arith}
-use Rattle.phonon.specs.Number.{index, int}
 use Rattle.phonon.proofs.Laws.{pair_lt}
 use Rattle.planes.proofs.ColsLaws.{cols_ext}
-use Rattle.real_to_reciprocal.proofs.CopyLaws.{At, next_at, next_first}
+use Rattle.real_to_reciprocal.proofs.CopyLaws.{next_at, next_first}
 use Rattle.real_to_reciprocal.proofs.ShapeLaws.{pair_in}
 use Rattle.real_to_reciprocal.proofs.HeldLaws.{settled_cols}
 use Rattle.real_to_reciprocal.proofs.ElementLaws.{k_start, k_turn, j_start, j_turn, element_by}
