@@ -5,9 +5,10 @@
 // hexadecimal digits, with single spaces. A line that starts with # is a comment. Every NaN is 7ff8000000000000.
 #![tactic(auto)]
 
-ghost use Rattle.std.specs.Prelude.{◌≡◌, ◌+◌, ◌<◌, ◌≤◌, length};
+ghost use Rattle.std.specs.Prelude.{◌≡◌, ◌<◌, ◌≤◌, length, IfSome};
 
 use common::bits::{bits_of, f64_of_bits};
+use std::fmt;
 use std::io::Read;
 
 // Room for the list.
@@ -17,177 +18,127 @@ fn input_buffer() -> [u8; 98304]
     [0; 98304]
 }
 
-// The value of a hexadecimal digit; 16 of any other byte.
-fn digit(b: u8) -> u64
-    ensures { result ≤ 16 }
+// The value of a hexadecimal digit.
+fn digit(b: u8) -> Option<u64>
+    ensures { IfSome result (λ d. d < 16) }
 {
     match b {
-        b'0'..=b'9' => (b - b'0') as u64,
-        b'a'..=b'f' => (b - b'a' + 10) as u64,
-        _ => 16,
+        b'0'..=b'9' => Some((b - b'0') as u64),
+        b'a'..=b'f' => Some((b - b'a' + 10) as u64),
+        _ => None,
     }
 }
 
-// Sixteen digits, as a number.
-#[derive(Clone, Copy)]
-enum Word {
-    Bits(u64),
-    Nothing,
-}
-
-// The digits from index at on. Each takes the place of the lowest, and the highest falls out.
-fn word_at(line: &[u8], at: usize) -> Word
-    requires { at + 16 ≤ length line.now }
-{
+// Sixteen digits, as a number. Each takes the place of the lowest, and the highest falls out.
+fn word(digits: &[u8]) -> Option<u64> {
+    if digits.len() != 16 {
+        return None;
+    }
     let mut w = 0u64;
-    let mut i = 0usize;
-    while i < 16 {
-        let d = digit(line[at + i]);
-        if d == 16 {
-            return Word::Nothing;
-        }
-        w = w % 0x1000_0000_0000_0000 * 16 + d;
-        i += 1;
+    for b in digits {
+        w = w % 0x1000_0000_0000_0000 * 16 + digit(*b)?;
     }
-    Word::Bits(w)
+    Some(w)
 }
 
-// One argument and the answer.
 #[derive(Clone, Copy)]
-enum Pair {
-    Of(u64, u64),
-    Nothing,
+enum Function {
+    Root,
+    Exp,
+    Sin,
+    Cos,
+    BoseEinstein,
 }
 
-// The end of a line: two words from index at on, with a space between.
-fn pair_at(line: &[u8], at: usize) -> Pair
-    requires { at ≤ 31 }
-{
-    if line.len() != at + 33 {
-        return Pair::Nothing;
+impl fmt::Display for Function {
+    fn fmt<W: fmt::Write>(&self, f: &mut fmt::Formatter<W>) -> fmt::Result {
+        f.write_str(match self {
+            Function::Root => "root",
+            Function::Exp => "exp",
+            Function::Sin => "sin",
+            Function::Cos => "cos",
+            Function::BoseEinstein => "bose_einstein",
+        })
     }
-    if line[at + 16] != b' ' {
-        return Pair::Nothing;
+}
+
+// The function of a name.
+fn named(name: &[u8]) -> Option<Function> {
+    match name {
+        b"root" => Some(Function::Root),
+        b"exp" => Some(Function::Exp),
+        b"sin" => Some(Function::Sin),
+        b"cos" => Some(Function::Cos),
+        b"bose_einstein" => Some(Function::BoseEinstein),
+        _ => None,
     }
-    let Word::Bits(x) = word_at(line, at) else {
-        return Pair::Nothing;
+}
+
+// A line's function, and whether its answer is the line's.
+#[derive(Clone, Copy)]
+struct Replayed {
+    function: Function,
+    agrees: bool,
+}
+
+// A line that is no comment, unless it cannot be read.
+fn replay(line: &[u8]) -> Option<Replayed> {
+    let mut words = line.split(|b| *b == b' ');
+    let function = named(words.next()?)?;
+    let x = f64_of_bits(word(words.next()?)?);
+    let answer = match function {
+        Function::Root => common::root(x),
+        Function::Exp => funcs::exp(x),
+        Function::Sin => funcs::sin_cos(x).sin,
+        Function::Cos => funcs::sin_cos(x).cos,
+        Function::BoseEinstein => funcs::bose_einstein(x, f64_of_bits(word(words.next()?)?)),
     };
-    let Word::Bits(y) = word_at(line, at + 17) else {
-        return Pair::Nothing;
-    };
-    Pair::Of(x, y)
+    let expected = word(words.next()?)?;
+    if words.next().is_some() {
+        return None;
+    }
+    Some(Replayed {
+        function,
+        agrees: bits_of(answer) == expected,
+    })
 }
 
-// Whether a line begins with a name.
-fn begins(line: &[u8], name: &[u8]) -> bool {
-    let n = name.len();
-    if line.len() < n {
-        return false;
-    }
-    check::same(&line[..n], name)
+// How many lines of a function were replayed, and how many of them differ.
+#[derive(Clone, Copy, Default)]
+struct Count {
+    all: u64,
+    differ: u64,
 }
 
-// The kinds of line: 2f where function f agrees, 2f + 1 where it differs, and these two. The functions are root, exp, sin,
-// cos and bose_einstein, from 0 to 4.
-const MALFORMED: usize = 10;
-
-const COMMENT: usize = 11;
-
-// The kind of a line of function f, by its answer.
-fn judged(f: usize, answer: f64, expected: u64) -> usize
-    requires { f < 5 }
-    ensures { result < 10 }
-{
-    if bits_of(answer) == expected {
-        2 * f
-    } else {
-        2 * f + 1
-    }
+#[derive(Clone, Copy, Default)]
+struct Counts {
+    functions: [Count; 5],
+    malformed: u64,
 }
 
-// The kind of a line of bose_einstein: its name has 14 bytes, and two words follow the first.
-fn judged_occupation(line: &[u8]) -> usize
-    ensures { result < 12 }
-{
-    if line.len() != 64 {
-        return MALFORMED;
-    }
-    if line[30] != b' ' {
-        return MALFORMED;
-    }
-    let Word::Bits(x) = word_at(line, 14) else {
-        return MALFORMED;
-    };
-    let Pair::Of(t, y) = pair_at(line, 31) else {
-        return MALFORMED;
-    };
-    judged(4, funcs::bose_einstein(f64_of_bits(x), f64_of_bits(t)), y)
-}
-
-// The kind of a line.
-fn kind(line: &[u8]) -> usize
-    ensures { result < 12 }
-{
-    if begins(line, b"#") {
-        return COMMENT;
-    }
-    if begins(line, b"bose_einstein ") {
-        return judged_occupation(line);
-    }
-    if begins(line, b"root ") {
-        let Pair::Of(x, y) = pair_at(line, 5) else {
-            return MALFORMED;
-        };
-        return judged(0, common::root(f64_of_bits(x)), y);
-    }
-    let Pair::Of(b, y) = pair_at(line, 4) else {
-        return MALFORMED;
-    };
-    let x = f64_of_bits(b);
-    if begins(line, b"exp ") {
-        return judged(1, funcs::exp(x), y);
-    }
-    let p = funcs::sin_cos(x);
-    if begins(line, b"sin ") {
-        return judged(2, p.sin, y);
-    }
-    if begins(line, b"cos ") {
-        return judged(3, p.cos, y);
-    }
-    MALFORMED
-}
-
-// The index of the line feed that ends the line at index at, or the end of the list.
-fn line_end(list: &[u8], at: usize) -> usize
-    requires { at ≤ length list.now }
-    ensures { (at ≤ result) × (result ≤ length list.now) }
-{
-    let mut i = at;
-    while i < list.len() && list[i] != b'\n' {
-        i += 1;
-    }
-    i
-}
-
-// How many lines of each kind there are.
-fn counted(list: &[u8]) -> [u64; 12]
-    ensures { 12 ≡ length result }
-{
-    let mut counts = [0u64; 12];
-    let mut at = 0usize;
-    while at < list.len() {
-        let end = line_end(list, at);
-        let k = kind(&list[at..end]);
-        counts[k] = std::num::wrapping_add_u64(counts[k], 1);
-        at = end;
-        if at < list.len() {
-            at += 1;
+fn counted(list: &[u8]) -> Counts {
+    let mut counts = Counts::default();
+    for ended in list.split_inclusive(|b| *b == b'\n') {
+        let line = ended.strip_suffix(b"\n").unwrap_or(ended);
+        if line.starts_with(b"#") {
+            continue;
+        }
+        match replay(line) {
+            Some(r) => {
+                let count = &mut counts.functions[r.function as usize];
+                count.all = count.all.wrapping_add(1);
+                if !r.agrees {
+                    count.differ = count.differ.wrapping_add(1);
+                }
+            }
+            None => counts.malformed = counts.malformed.wrapping_add(1),
         }
     }
     counts
 }
 
-// Reads until buf is full, the input ends or a read fails, and returns how many bytes it put at the start of buf.
+// Reads until buf is full, the input ends or a read fails, and returns how many bytes it put at the start of buf. The library's
+// methods that read so ask for memory.
 fn read_full<R: Read>(input: &mut R, buf: &mut [u8]) -> usize
     ensures { result ≤ length buf.new }
 {
@@ -202,21 +153,20 @@ fn read_full<R: Read>(input: &mut R, buf: &mut [u8]) -> usize
     done
 }
 
-// Writes a function's line.
-fn print_count(rt: &impl Print, name: &str, agree: u64, differ: u64) {
-    let all = std::num::wrapping_add_u64(agree, differ);
-    let _ = println!(rt; "{name} {all} differ {differ}");
-}
-
 fn main(rt: HostRuntime) {
     let mut input = input_buffer();
     let n = read_full(&mut rt.stdin(), &mut input);
     let counts = counted(&input[..n]);
-    print_count(&rt, "root", counts[0], counts[1]);
-    print_count(&rt, "exp", counts[2], counts[3]);
-    print_count(&rt, "sin", counts[4], counts[5]);
-    print_count(&rt, "cos", counts[6], counts[7]);
-    print_count(&rt, "bose_einstein", counts[8], counts[9]);
-    let malformed = counts[MALFORMED];
+    for function in [
+        Function::Root,
+        Function::Exp,
+        Function::Sin,
+        Function::Cos,
+        Function::BoseEinstein,
+    ] {
+        let Count { all, differ } = counts.functions[function as usize];
+        let _ = println!(rt; "{function} {all} differ {differ}");
+    }
+    let malformed = counts.malformed;
     let _ = println!(rt; "malformed {malformed}");
 }

@@ -1,9 +1,0 @@
--- Sixteen turns; without its highest digit, sixteen times a word and a digit more is a word again.
-use Rattle.std.proofs.Common.{◌-◌, ◌≤◌}
-use Rattle.standins_replay.proofs.word_at.Given as goal
-
-abbrev pub invariant-loop-i : goal.invariant-loop-i
-invariant-loop-i l = l.i ≤ 16
-
-abbrev pub decreases-loop-i : goal.decreases-loop-i
-decreases-loop-i l = 16 - l.i
