@@ -2,6 +2,7 @@
 use mathlib.Core.Path.{◌≡◌, ◌∙◌}
 use mathlib.Core.List.{List}
 use Prim.Native.Nat.{ℕ, ◌<◌}
+use lib.ListN.{length}
 use lib.Ieee.{Float}
 use Rattle.std.specs.Prelude.{Option, None}
 use Rattle.phonon.specs.declared.Complex.{Complex}
@@ -13,6 +14,10 @@ module _ {constants t : List Float} {f : ℕ → Complex} where
   -- sums beside which nothing waits
   pub settled_none : Cols t 27 f → Settled constants t None f
   settled_none s = record { size = s.size; room = tt; sum = s.col }
+
+  -- sums that are written anew, beside which nothing waits
+  pub settled_wrote : {t' : List Float} → length t ≡ 54 → WroteSplit t t' 0 27 27 f → Settled constants t' None f
+  settled_wrote l w = record { size = w.size ∙ l; room = tt; sum = w.inside }
 
 module _ {constants t : List Float} {h : Option Block} {f : ℕ → Complex} where
   -- the same sums by another name

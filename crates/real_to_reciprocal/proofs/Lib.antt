@@ -1,4 +1,5 @@
 -- The laws behind q, the phase factors, the sums over pairs, the blocks and the region that they fill.
+pub mod QLaws
 pub mod TestLaws
 pub mod PhaseLaws
 pub mod ThreeLaws

@@ -5,7 +5,9 @@ ghost use Rattle.planes.specs.Split.{split, WroteSplit};
 use phonon::Complex;
 use planes::{get_split, put_split};
 
-// Changes each number by f, which is handed its place and the number.
+// Changes each number by f, which is handed its place and the number. Laid into its callers, so that no turn loads anew what f
+// holds.
+#[inline(always)]
 pub fn change_each<F: Fn(usize, Complex) -> Complex>(t: &mut [f64; 54], f: F)
     requires { (e : ℕ) (z : Complex) → e < 27 → F.pre f e z }
     ensures { (h : ℕ → Complex → Complex) → ((e : ℕ) (z r : Complex) → e < 27 → F.post f e z r → r ≡ h e z)
