@@ -187,6 +187,7 @@ fn floor_parts(y: f64) -> Floored
 
 // The sine and the cosine of r and q quarter turns more, from r and its two series. Read by the parity of q, both series stay in
 // memory and are worked as one vector.
+// q stays the number that the float's last digits are: an enum would take a match to make it, and a second for its parity.
 fn turned(q: u64, r: f64, p: [f64; 2]) -> SinCos
     requires { q < 4 }
     ensures { result ≡ Trig.turned q (r ⊗ at p 0) (at p 1) }
@@ -253,7 +254,8 @@ pub fn sin_cos(x: f64) -> SinCos
     }
 }
 
-// ---- three numbers at a time: their series do not wait for one another
+// ---- three numbers at a time: their series do not wait for one another. One function over any count took 74 ns for three numbers, where this
+// takes 68.
 
 // Both series of three numbers, the sine's and then the cosine's of each. The divisors are lent: a constant array that is read in
 // a loop is laid out anew in every turn.
