@@ -1,8 +1,10 @@
 -- The bit pattern of a value q * 2 ^ k in units of the smallest, where q has all 53 digits. Assumes nothing.
-use Rattle.std.proofs.Common.{◌≡◌, ℕ, zero, suc, ◌+◌, ◌-◌, ◌*◌, ◌/◌, ◌%◌, ◌^◌, ◌<◌, ◌≤◌, Bool, true, false, cond, T, eqb, sym, ap, ◌∙◌, subst, true≢false, le_trans, le_of_eq, lt_of_lt_of_le, not-suc-le-zero, lt_irrefl, mul-le-mul_right, mul_assoc, mul_comm, suc-add, mul-lt-mul_of_pos_right, pow-suc, mul-one, mul_right_comm, mul-div_cancel, arith, pow_pos, pow_mono, pow-add, ne_eqb}
-use native.Mathlib.Decide.{dec_lt, dec_le}
+use Rattle.std.proofs.Common.{◌≡◌, ℕ, suc, ◌+◌, ◌-◌, ◌*◌, ◌/◌, ◌%◌, ◌^◌, ◌<◌, ◌≤◌, Bool, true, false, cond, T, eqb, sym, ap, ◌∙◌, subst, true≢false, le_trans, le_of_eq, lt_of_lt_of_le, lt_irrefl, mul-le-mul_right, mul_assoc, suc-add, mul-lt-mul_of_pos_right, pow-suc, mul-one, mul_right_comm, mul-div_cancel, arith, pow_pos, pow_mono, pow-add, ne_eqb}
+use native.Mathlib.Decide.{dec_lt}
 use borrow.Author.Tests.{lt-leb}
-use lib.Pow.{shl-shr}
+use lib.Pow.{shl-shr, shl_exact}
+use lib.Count.{count_leading_zeros}
+use Rattle.std.proofs.lemmas.Nat.{leading_top}
 use lib.Ieee.{Float, nan, inf, fin, binary64, fits, size, to_bits, of_bits, of_fields, odd, up, down}
 use lib.Ieee.Digits.{size-lt, size-le}
 use lib.Ieee.Exact.{HasValue, odd_sign}
@@ -92,21 +94,32 @@ subnormal_value b d e h n =
     subst (λ (v : Float). HasValue v false (d * 2 ^ e) (2 ^ 2148)) (sym (of_bits_subnormal b h))
     (subst (λ (a : ℕ). HasValue (odd 53 false b 0 1074) false a (2 ^ 2148)) (ap (λ (y : ℕ). y * 2 ^ 1074) (mul-one b) ∙ sym n) (rescaled (odd 53 false b 0 1074) false (b * 2 ^ 0) (2 ^ 1074) (2 ^ 1074) (odd_sign 53 false b 0 1074)))
 
--- one more doubling
-pub doubled : (d e : ℕ) → 0 < e → d * 2 * 2 ^ (e - 1) ≡ d * 2 ^ e
-doubled d zero h = absurd (not-suc-le-zero h)
-doubled d (suc e) h =
-    let p : suc e - 1 ≡ e = omega arith in
-    ap (λ (y : ℕ). d * 2 * 2 ^ y) p ∙ mul_assoc d 2 (2 ^ e) ∙ ap (λ (y : ℕ). d * y) (mul_comm 2 (2 ^ e) ∙ sym (pow-suc 2 e))
+-- ---- a subnormal number's digits, moved up until the highest has place 52
 
-pub low_exponent : (d e b : ℕ) → 0 < b → d < 2 ^ 53 → d * 2 ^ e ≡ b * 2 ^ 1074 → 1022 ≤ e
-low_exponent d e b hb hd h = go (dec_le 1022 e)
+pub record Raised (a s : ℕ) : Type 0 where
+  pub most : s ≤ 52
+  pub whole : (a * 2 ^ s) % 2 ^ 64 ≡ a * 2 ^ s
+  pub low : 2 ^ 52 ≤ a * 2 ^ s
+  pub high : a * 2 ^ s < 2 ^ 53
+  pub value : a * 2 ^ s * 2 ^ (1074 - s) ≡ a * 2 ^ 1074
+
+raised_by : (a j s : ℕ) → j + s ≡ 52 → 2 ^ j ≤ a → a < 2 ^ suc j → Raised a s
+raised_by a j s e lo hi =
+    let same : suc j + s ≡ 53 = omega arith in
+    let rest : s + (1074 - s) ≡ 1074 = omega arith in
+    record {
+      most = omega arith;
+      whole = shl_exact (suc j) s 64 hi (omega arith);
+      low = le_trans (le_of_eq (ap (λ (x : ℕ). 2 ^ x) (sym e) ∙ pow-add 2 j s)) (mul-le-mul_right (2 ^ s) lo);
+      high = lt_of_lt_of_le (mul-lt-mul_of_pos_right hi (pow_pos s)) (le_of_eq (sym (pow-add 2 (suc j) s) ∙ ap (λ (x : ℕ). 2 ^ x) same));
+      value = mul_assoc a (2 ^ s) (2 ^ (1074 - s)) ∙ ap (λ (x : ℕ). a * x) (sym (pow-add 2 s (1074 - s)) ∙ ap (λ (x : ℕ). 2 ^ x) rest);
+    }
+
+pub raised : (a : ℕ) → 0 < a → a < 2 ^ 52 → (11 ≤ count_leading_zeros 64 a) × Raised a (count_leading_zeros 64 a - 11)
+raised a pos small =
+    let t = leading_top 64 a pos (omega arith) in
+    go t.0 t.2 (dec_lt t.0 52) t.1 t.3
   where
-    go : Dec (1022 ≤ e) → 1022 ≤ e
-    go (yes l) = l
-    go (no f) =
-        absurd (lt_irrefl (d * 2 ^ e)
-        (lt_of_lt_of_le (mul-lt-mul_of_pos_right hd (pow_pos e))
-        (le_trans (le_of_eq (sym (pow-add 2 53 e)))
-        (le_trans (pow_mono {i = 53 + e} {j = 1074} (omega arith))
-        (le_trans (mul-le-mul_right (2 ^ 1074) hb) (le_of_eq (sym h)))))))
+    go : (j : ℕ) → 2 ^ j ≤ a → Dec (j < 52) → count_leading_zeros 64 a + suc j ≡ 64 → a < 2 ^ suc j → (11 ≤ count_leading_zeros 64 a) × Raised a (count_leading_zeros 64 a - 11)
+    go j lo (yes h) e hi = (omega arith, raised_by a j (count_leading_zeros 64 a - 11) (omega arith) lo hi)
+    go j lo (no n) e hi = absurd (lt_irrefl a (lt_of_lt_of_le small (le_trans (pow_mono {i = 52} {j = j} (omega arith)) lo)))

@@ -95,8 +95,7 @@ fn rounded_root(m: u64) -> u64
     let mut digits = m;
     let mut root = 0u64;
     let mut rest = 0u64;
-    let mut i = 0u64;
-    while i < 53 {
+    for i in 0..53u64 {
         let have = rest * 4 + digits / 0x10_0000_0000_0000;
         digits = digits % 0x10_0000_0000_0000 * 4;
         if root * 4 < have {
@@ -106,7 +105,6 @@ fn rounded_root(m: u64) -> u64
             rest = have;
             root = root * 2;
         }
-        i += 1;
     }
     if root < rest { root + 1 } else { root }
 }
@@ -131,15 +129,10 @@ fn normalised(pattern: u64) -> Scaled
             exponent: field + 1073,
         };
     }
-    let mut digits = pattern;
-    let mut exponent = 1074u64;
-    while digits < 0x10_0000_0000_0000 {
-        digits = digits * 2;
-        exponent = exponent - 1;
-    }
+    let shift = pattern.leading_zeros() - 11;
     Scaled {
-        digits: digits,
-        exponent: exponent,
+        digits: pattern << shift,
+        exponent: 1074 - shift as u64,
     }
 }
 

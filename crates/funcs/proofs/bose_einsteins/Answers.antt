@@ -1,5 +1,5 @@
 -- The source's formula, of each.
-use Rattle.std.proofs.Common.{rules, ◌≡◌, ◌<◌, length, map, ℕ, refl, ap, ◌∙◌}
+use Rattle.std.proofs.Common.{rules, ◌≡◌, ◌<◌, length, ℕ, ap, ◌∙◌}
 use lib.Ieee.{nan}
 use Rattle.std.proofs.lemmas.List.{get_or-map}
 use Rattle.phonon.specs.Number.{◌⊖◌, ◌⊘◌, f1, at}

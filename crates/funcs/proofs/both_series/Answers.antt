@@ -10,10 +10,10 @@ unfolding of_bits of_int
 loop-i-preserved c =
     let l = c.loop-i in
     let z = c.args.z in
-    (omega arith, fold_turn (alternating z) l.s sine_divisors l.i (omega (arith, c.loop-i-test.true)) ∙ l.invariant.1, fold_turn (alternating z) l.c cosine_divisors l.i (omega (arith, c.loop-i-test.true)) ∙ l.invariant.2)
+    (fold_turn (alternating z) l.s sine_divisors l.i (omega (arith, c.loop-i-test.true)) ∙ l.invariant.0, fold_turn (alternating z) l.c cosine_divisors l.i (omega (arith, c.loop-i-test.true)) ∙ l.invariant.1)
 
 pub returns : goal.returns
 returns c =
     let l = c.loop-i in
     let z = c.args.z in
-    rw (sine_fold z, cosine_fold z, sym l.invariant.1, sym l.invariant.2, fold_end (alternating z) l.s sine_divisors l.i (omega arith), fold_end (alternating z) l.c cosine_divisors l.i (omega arith)) refl
+    rw (sine_fold z, cosine_fold z, sym l.invariant.0, sym l.invariant.1, fold_end (alternating z) l.s sine_divisors l.i (omega arith), fold_end (alternating z) l.c cosine_divisors l.i (omega arith)) refl

@@ -2,7 +2,7 @@
 use Rattle.std.proofs.Common.{rules}
 use native.Mathlib.Omega.{arith}
 use lib.Ieee.{of_bits, of_int}
-use Rattle.funcs.proofs.Series.{rising, exp_divisors, exp_fold, turning_none, turning_more, turning_next, turning_whole}
+use Rattle.funcs.proofs.Series.{exp_fold, turning_none, turning_more, turning_next, turning_whole}
 use Rattle.funcs.proofs.exp_series.Goals as goal
 
 pub loop-d-init : goal.loop-d-init

@@ -1,5 +1,5 @@
 -- Where all numbers are in the range, each exponential comes from its parts; elsewhere each is worked alone.
-use Rattle.std.proofs.Common.{rules, ◌≡◌, ◌<◌, length, ℕ, refl, ap, ap₂, ◌∙◌}
+use Rattle.std.proofs.Common.{rules, ◌≡◌, ◌<◌, length, ℕ, refl, ap, ◌∙◌}
 use mathlib.Core.Bool.{true}
 use Rattle.phonon.specs.Number.{◌⊗◌, at}
 use Rattle.phonon.specs.Exp as Exp
