@@ -3,20 +3,19 @@ use Prim.Native.Nat.{ℕ, zero, suc, ◌+◌, ◌*◌, ◌<◌, ◌≤◌}
 use native.Mathlib.Omega.{arith}
 use mathlib.Core.Bool.{Bool, true, false, ◌&&◌, and-false, and_assoc}
 use mathlib.Core.Path.{◌≡◌, refl, ap, ◌∙◌}
-use mathlib.Core.List.{List, [], ◌∷◌}
+use mathlib.Core.List.{List}
 use lib.IntN.{ℤ, pos}
-use lib.ListN.{get_or, length}
+use lib.ListN.{length}
 use lib.Ieee.{Float}
 use Rattle.phonon.specs.Number.{index, int}
 use Rattle.phonon.specs.Trig.{in_domain}
 use Rattle.phonon.specs.Tests.{every_below, all_true, all_true_after}
 use Rattle.phonon.specs.declared.Legs.{Legs}
 use Rattle.phonon.specs.Sets.{part, Tables}
-use Rattle.phonon.specs.RealToReciprocal.{q_at, phase, pre_phase, anchor_vector}
+use Rattle.phonon.specs.RealToReciprocal.{phase, pre_phase, anchor_vector}
 use Rattle.phonon.specs.declared.Symmetry.{Symmetry}
 use Rattle.phonon.specs.declared.Symmetry.TheVariants.{Off, Symmetrized}
-use Rattle.phonon.specs.Interaction.{orders, leg, exchanged, order_count, legs_at}
-use Rattle.planes.proofs.LegOrders.{orders_lt}
+use Rattle.phonon.specs.Interaction.{exchanged, order_count, legs_at}
 use Rattle.phonon.proofs.Laws.{part_at, part_size}
 use Rattle.checks.proofs.Laws.{every_step}
 use Rattle.phonon.specs.Refusal.{leg_phases_ok, pre_phases_ok, orders_ok, phases_ok}
@@ -123,8 +122,8 @@ part_readable t triplets k h l = record { located = part_located k h.located l; 
 pub phases_told : (t : Tables) (points : List ℤ) {a o : Bool} {q : Legs (List Float)}
     → q ≡ legs_at t.grid points
     → a ≡ leg_phases_ok t.crystal.vectors t.crystal.multiplicity (t.measures.supercell * t.measures.atoms) q.leg0
-        && leg_phases_ok t.crystal.vectors t.crystal.multiplicity (t.measures.supercell * t.measures.atoms) q.leg1
-        && leg_phases_ok t.crystal.vectors t.crystal.multiplicity (t.measures.supercell * t.measures.atoms) q.leg2
+    && leg_phases_ok t.crystal.vectors t.crystal.multiplicity (t.measures.supercell * t.measures.atoms) q.leg1
+    && leg_phases_ok t.crystal.vectors t.crystal.multiplicity (t.measures.supercell * t.measures.atoms) q.leg2
     → o ≡ orders_ok t.measures.atoms t.symmetry t.crystal.vectors t.crystal.multiplicity t.crystal.forces.p2s q
     → a && o ≡ points_fine t points
 unfolding phases_ok all_true all_true_after

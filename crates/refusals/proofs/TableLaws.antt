@@ -5,10 +5,12 @@ use mathlib.Core.Bool.{true}
 use mathlib.Core.Path.{◌≡◌, refl}
 use mathlib.Core.List.{List}
 use lib.IntN.{ℤ}
+use lib.Ieee.{Float}
 use lib.ListN.{length}
 use Rattle.phonon.specs.declared.Sizes.{Sizes}
+use Rattle.phonon.specs.declared.Bath.{Bath}
 use Rattle.phonon.specs.Sets.{Tables}
-use Rattle.phonon.specs.Refusal.{lowest, points_ok, tests_of, slot_tests, point_tests}
+use Rattle.phonon.specs.Refusal.{lowest, points_ok, tests_of, slot_tests, point_tests, bath_tests}
 use Rattle.phonon.proofs.Lowest.{passing}
 use Rattle.phonon.proofs.Accepted.{TablesGood, table_facts, index_below}
 use Rattle.real_to_reciprocal.specs.Shape.{Ranged}
@@ -36,3 +38,7 @@ phases_safe t n points e f h = safe t (table_facts t e) n points h (passing (poi
 
 pub slots_same : (n : Sizes → ℕ) (f v w : ℕ) {k : ℕ} {z y : Sizes} → k ≡ lowest (slot_tests (n z) z f v w) → z ≡ y → k ≡ lowest (slot_tests (n y) y f v w)
 slots_same n f v w e p = rw (e, p) refl
+
+pub bath_same : (F : ℕ) (h : Bath) (first second : List Float) (totals : ℕ) {k : ℕ} {z y : Sizes} → k ≡ lowest (bath_tests z.slots F h first second totals) → z ≡ y
+    → k ≡ lowest (bath_tests y.slots F h first second totals)
+bath_same F h first second totals e p = rw (e, p) refl

@@ -23,12 +23,7 @@ fn in_domain(x: f64) -> bool
 
 // Each vector of each entry of the multiplicities, at the q of the three legs. One pass reads each vector once, and by
 // `&` no branch depends on a phase: a way out at the first bad one would help only sets that are turned away.
-fn legs_phases_ok(
-    q: &Legs<[f64; 3]>,
-    vectors: &[f64],
-    multiplicity: &[i64],
-    entries: usize,
-) -> bool
+fn legs_phases_ok(q: &Legs<[f64; 3]>, vectors: &[f64], multiplicity: &[i64], entries: usize) -> bool
     requires { Ranged vectors.now multiplicity.now entries }
     ensures { result ≡ (leg_phases_ok vectors.now multiplicity.now entries q.now.leg0
         && leg_phases_ok vectors.now multiplicity.now entries q.now.leg1
@@ -93,12 +88,7 @@ fn exchanged(q: &Legs<[f64; 3]>, o: usize) -> Legs<[f64; 3]>
 }
 
 // Each order of the legs that is used.
-fn orders_ok(
-    q: &Legs<[f64; 3]>,
-    symmetry: Symmetry,
-    crystal: &Crystal<'_>,
-    atoms: usize,
-) -> bool
+fn orders_ok(q: &Legs<[f64; 3]>, symmetry: Symmetry, crystal: &Crystal<'_>, atoms: usize) -> bool
     requires { Anchored crystal.now.vectors.now crystal.now.multiplicity.now crystal.now.forces.p2s.now atoms }
     ensures { result ≡ orders_ok atoms symmetry crystal.now.vectors.now crystal.now.multiplicity.now
         crystal.now.forces.p2s.now q.now }
@@ -128,8 +118,12 @@ pub fn phases_ok(tables: &Tables<'_>, points: &[i64]) -> bool
     let m = tables.measures;
     let crystal = &tables.crystal;
     let q = legs_at(&tables.grid, points);
-    legs_phases_ok(&q, crystal.vectors, crystal.multiplicity, m.supercell * m.atoms)
-        & orders_ok(&q, tables.symmetry, crystal, m.atoms)
+    legs_phases_ok(
+        &q,
+        crystal.vectors,
+        crystal.multiplicity,
+        m.supercell * m.atoms,
+    ) & orders_ok(&q, tables.symmetry, crystal, m.atoms)
 }
 
 // Each triplet of a list.

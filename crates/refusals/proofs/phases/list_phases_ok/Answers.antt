@@ -1,10 +1,7 @@
 -- Every triplet before number t is fine.
 use native.Mathlib.Omega.{arith}
 use mathlib.Core.Path.{◌≡◌, sym, ◌∙◌}
-use Rattle.phonon.specs.Handed.{tables_of}
-use Rattle.phonon.specs.Sets.{part}
 use Rattle.phonon.proofs.Accepted.{every_none, every_next, every_bad}
-use Rattle.refusals.specs.Phases.{points_fine}
 use Rattle.refusals.proofs.PhaseLaws.{part_readable}
 use Rattle.refusals.proofs.phases.list_phases_ok.Goals as goal
 

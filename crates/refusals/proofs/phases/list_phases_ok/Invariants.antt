@@ -1,5 +1,4 @@
 -- Every triplet before number t is fine.
-use Prim.Native.Nat.{◌≤◌}
 use mathlib.Core.Path.{◌≡◌}
 use mathlib.Core.Bool.{true}
 use Rattle.phonon.specs.Handed.{tables_of}

@@ -32,6 +32,9 @@ pre_phase-requires c =
 pub returns : goal.returns
 returns c =
     let a = c.args in
-    rw (c.in_domain.ensures, c.pre_phase.ensures,
-      anchor_at a.atoms a.crystal.now.vectors.now a.crystal.now.multiplicity.now a.crystal.now.forces.p2s.now a.i c.index_at.ensures c.index_at-2.ensures)
+    rw (
+      c.in_domain.ensures,
+      c.pre_phase.ensures,
+      anchor_at a.atoms a.crystal.now.vectors.now a.crystal.now.multiplicity.now a.crystal.now.forces.p2s.now a.i c.index_at.ensures c.index_at-2.ensures,
+    )
     refl
