@@ -1,13 +1,14 @@
 -- Laws of the tests, over any test: the first number that fails one, and the test of all numbers below an end, tell the same.
 use Prim.Native.Nat.{ℕ, zero, suc, ◌+◌, ◌-◌, ◌*◌, ◌≤◌, ◌<◌}
-use mathlib.Core.Bool.{Bool, true, false, not, ◌&&◌, cond, true≢false}
-use mathlib.Core.Path.{◌≡◌, refl, sym, ◌∙◌}
-use mathlib.Core.List.{List}
-use native.Mathlib.Nat.{zero-mul, sub-zero}
+use mathlib.Core.Bool.{Bool, true, false, not, ◌&&◌, cond, true≢false, and-true, and_assoc}
+use mathlib.Core.Path.{◌≡◌, refl, sym, ap, ◌∙◌}
+use mathlib.Core.List.{List, [], ◌∷◌}
+use native.Mathlib.Nat.{zero-mul, sub-zero, add-zero}
 use native.Mathlib.Numerals.{add-one}
 use native.Mathlib.Omega.{arith}
 use lib.Ieee.{Float, nan, inf, fin, binary64, add, lt, eq, div, up, down}
-use lib.ListN.{length}
+use lib.ListN.{length, get_or}
+use Rattle.std.specs.List.{list_all, range_with_len}
 use Rattle.phonon.specs.Number.{◌⊕◌, at}
 use lib.Ieee.Fits.{up_pos}
 use lib.IntN.{ℤ, pos}
@@ -53,6 +54,34 @@ every_more p k h e = rw h e
 pub every_step : (p : ℕ → Bool) (k : ℕ) {a b : Bool} → a ≡ every_below p k → b ≡ p k → (a && b) ≡ every_below p (k + 1)
 unfolding every_below
 every_step p k u v = rw (add-one, u, v) refl
+
+-- the same test at each number
+every_same : (p q : ℕ → Bool) → ((k : ℕ) → p k ≡ q k) → (n : ℕ) → every_below p n ≡ every_below q n
+unfolding every_below
+every_same p q e zero = refl
+every_same p q e (suc n) = rw (every_same p q e n, e n) refl
+
+-- the first test stands apart
+every_front : (p : ℕ → Bool) (n : ℕ) → every_below p (suc n) ≡ p 0 && every_below (λ k. p (suc k)) n
+unfolding every_below
+every_front p zero = sym (and-true (p 0))
+every_front p (suc n) = rw (every_front p n) (and_assoc (p 0) (every_below (λ k. p (suc k)) n) (p (suc n)))
+
+-- `all` over the numbers below an end, and over a slice
+all_from : (p : ℕ → Bool) (a n : ℕ) → list_all p (range_with_len a n) ≡ every_below (λ k. p (a + k)) n
+unfolding every_below
+all_from p a zero = refl
+all_from p a (suc n) =
+    rw (all_from p (a + 1) n, every_front (λ k. p (a + k)) n, add-zero)
+    (ap (λ (b : Bool). p a && b) (every_same (λ k. p (a + 1 + k)) (λ k. p (a + suc k)) (λ k. let e : a + 1 + k ≡ a + suc k = omega arith in rw e refl) n))
+
+pub all_below : (p : ℕ → Bool) (n : ℕ) → list_all p (range_with_len 0 n) ≡ every_below p n
+all_below p n = all_from p 0 n ∙ every_same (λ k. p (0 + k)) p (λ k. let e : 0 + k ≡ k = omega arith in rw e refl) n
+
+pub all_items : {A : Type 0} (p : A → Bool) (d : A) (xs : List A) → list_all p xs ≡ every_below (λ k. p (get_or xs k d)) (length xs)
+unfolding every_below
+all_items p d [] = refl
+all_items p d (x ∷ xs) = rw (all_items p d xs) (sym (every_front (λ k. p (get_or (x ∷ xs) k d)) (length xs)))
 
 -- ---- the first number at which a test fails
 

@@ -3,23 +3,26 @@ use Prim.Native.Nat.{ℕ, zero, suc, ◌+◌, ◌*◌, ◌<◌, ◌≤◌}
 use native.Mathlib.Omega.{arith}
 use mathlib.Core.Bool.{Bool, true, false, ◌&&◌, and-false, and_assoc}
 use mathlib.Core.Path.{◌≡◌, refl, ap, ◌∙◌}
-use mathlib.Core.List.{List, [], ◌∷◌}
+use mathlib.Core.List.{List}
 use lib.IntN.{ℤ, pos}
-use lib.ListN.{get_or}
+use lib.ListN.{length}
 use lib.Ieee.{Float}
 use Rattle.phonon.specs.Number.{index, int}
 use Rattle.phonon.specs.Trig.{in_domain}
 use Rattle.phonon.specs.Tests.{every_below, all_true, all_true_after}
-use Rattle.phonon.specs.Sets.{part, Grid, Legs}
-use Rattle.phonon.specs.RealToReciprocal.{q_at, phase, pre_phase, anchor_vector}
+use Rattle.phonon.specs.declared.Legs.{Legs}
+use Rattle.phonon.specs.Sets.{part, Tables}
+use Rattle.phonon.specs.RealToReciprocal.{phase, pre_phase, anchor_vector}
 use Rattle.phonon.specs.declared.Symmetry.{Symmetry}
 use Rattle.phonon.specs.declared.Symmetry.TheVariants.{Off, Symmetrized}
-use Rattle.phonon.specs.Interaction.{orders, leg, exchanged, order_count, legs_at}
-use Rattle.planes.proofs.LegOrders.{orders_lt}
+use Rattle.phonon.specs.Interaction.{exchanged, order_count, legs_at}
 use Rattle.phonon.proofs.Laws.{part_at, part_size}
 use Rattle.checks.proofs.Laws.{every_step}
 use Rattle.phonon.specs.Refusal.{leg_phases_ok, pre_phases_ok, orders_ok, phases_ok}
-use Rattle.refusals.specs.Phases.{Located}
+use Rattle.real_to_reciprocal.specs.Shape.{Anchored}
+use Rattle.real_to_reciprocal.proofs.PhaseLaws.{anchor_in}
+use Rattle.phonon.proofs.Accepted.{index_below}
+use Rattle.refusals.specs.Phases.{Located, Readable, points_fine}
 
 -- ---- one pass for three tests
 
@@ -75,6 +78,15 @@ module _ (vectors q0 q1 q2 : List Float) where
 abbrev pub atom_fine : ℕ → List Float → List ℤ → List ℤ → Legs (List Float) → ℕ → Bool
 atom_fine P vectors multiplicity p2s q i = in_domain (pre_phase vectors q (anchor_vector P multiplicity p2s i))
 
+module _ (P : ℕ) (vectors : List Float) (multiplicity p2s : List ℤ) (i : ℕ) where
+  -- the entry of the atom is in the table, and its first vector among the vectors
+  pub anchored : Anchored vectors multiplicity p2s P → i < P
+      → (2 * (index (int p2s i) * P) + 2 ≤ length multiplicity) × (3 * anchor_vector P multiplicity p2s i + 3 ≤ length vectors)
+  anchored h l = anchor_in P vectors multiplicity p2s i h.ranged (omega (arith, l)) (index_below _ _ h.some h.anchors i (omega (arith, h.atoms, l)))
+
+  pub entry_in : {a : ℕ} → Anchored vectors multiplicity p2s P → i < P → a ≡ index (int p2s i) → 2 * (a * P) + 2 ≤ length multiplicity
+  entry_in h l e = rw e (anchored h l).0
+
 pub atoms_are : (P : ℕ) (vectors : List Float) (multiplicity p2s : List ℤ) (q : Legs (List Float))
     → every_below (atom_fine P vectors multiplicity p2s q) P ≡ pre_phases_ok P vectors multiplicity p2s q
 unfolding pre_phases_ok
@@ -93,34 +105,8 @@ pub count_most : (symmetry : Symmetry) → order_count symmetry ≤ 6
 count_most Off = omega arith
 count_most Symmetrized = omega arith
 
--- each place of an order is the number of a leg
-pub record Places (order : List ℕ) : Type 0 where
-  pub first : get_or order 0 0 < 3
-  pub second : get_or order 1 0 < 3
-  pub third : get_or order 2 0 < 3
-
-pub places : (order : List ℕ) (o : ℕ) → o < 6 → order ≡ get_or orders o [] → Places order
-places order o h e =
-    rw e (record { first = orders_lt o 0 h (omega arith); second = orders_lt o 1 h (omega arith); third = orders_lt o 2 h (omega arith) })
-
-leg_at : {A : Type 0} (a b c d : A) (x : ℕ) → x < 3 → get_or (a ∷ (b ∷ (c ∷ []))) x d ≡ leg (record { leg0 = a; leg1 = b; leg2 = c }) x
-leg_at a b c d zero h = refl
-leg_at a b c d (suc zero) h = refl
-leg_at a b c d (suc (suc zero)) h = refl
-leg_at a b c d (suc (suc (suc x))) h = absurd (omega arith)
-
--- the legs that order o picks from an array of the three
-pub exchanged_is : (a b c : List Float) (order : List ℕ) (o : ℕ) → o < 6 → order ≡ get_or orders o []
-    → ◌≡◌ {A = Legs (List Float)}
-    (record { leg0 = get_or (a ∷ (b ∷ (c ∷ []))) (get_or order 0 0) []; leg1 = get_or (a ∷ (b ∷ (c ∷ []))) (get_or order 1 0) []; leg2 = get_or (a ∷ (b ∷ (c ∷ []))) (get_or order 2 0) [] })
-    (exchanged o (record { leg0 = a; leg1 = b; leg2 = c }))
-unfolding exchanged
-exchanged_is a b c order o h e =
-    let p = places order o h e in
-    rw (leg_at a b c [] (get_or order 0 0) p.first, leg_at a b c [] (get_or order 1 0) p.second, leg_at a b c [] (get_or order 2 0) p.third, e) refl
-
 -- the points of triplet t of a list of m
-pub part_located : {m : ℕ} {triplets addresses : List ℤ} (t : ℕ) → Located (m * 3) triplets addresses → t < m → Located 3 (part 3 t triplets) addresses
+part_located : {m : ℕ} {triplets addresses : List ℤ} (t : ℕ) → Located (m * 3) triplets addresses → t < m → Located 3 (part 3 t triplets) addresses
 part_located {m} {triplets} {addresses} t h l =
     record {
       enough = omega (arith, part_size triplets (t * 3) 3 (omega (arith, h.enough)));
@@ -129,12 +115,16 @@ part_located {m} {triplets} {addresses} t h l =
           rw e (h.addressed (t * 3 + k) (omega arith));
     }
 
+pub part_readable : {m : ℕ} (t : Tables) (triplets : List ℤ) (k : ℕ) → Readable t (m * 3) triplets → k < m → Readable t 3 (part 3 k triplets)
+part_readable t triplets k h l = record { located = part_located k h.located l; ranged = h.ranged; anchored = h.anchored }
+
 -- the tests of the three legs and of their orders, at the q of their points
-pub phases_told : (P S : ℕ) (symmetry : Symmetry) (vectors : List Float) (multiplicity p2s : List ℤ) (w : Grid) (points : List ℤ) {a o : Bool} {q0 q1 q2 : List Float} {g0 g1 g2 : ℕ}
-    → g0 ≡ index (int points 0) → g1 ≡ index (int points 1) → g2 ≡ index (int points 2)
-    → q0 ≡ q_at w g0 → q1 ≡ q_at w g1 → q2 ≡ q_at w g2
-    → a ≡ leg_phases_ok vectors multiplicity (S * P) q0 && leg_phases_ok vectors multiplicity (S * P) q1 && leg_phases_ok vectors multiplicity (S * P) q2
-    → o ≡ orders_ok P symmetry vectors multiplicity p2s (record { leg0 = q0; leg1 = q1; leg2 = q2 })
-    → a && o ≡ phases_ok P S symmetry vectors multiplicity p2s (legs_at w points)
+pub phases_told : (t : Tables) (points : List ℤ) {a o : Bool} {q : Legs (List Float)}
+    → q ≡ legs_at t.grid points
+    → a ≡ leg_phases_ok t.crystal.vectors t.crystal.multiplicity (t.measures.supercell * t.measures.atoms) q.leg0
+    && leg_phases_ok t.crystal.vectors t.crystal.multiplicity (t.measures.supercell * t.measures.atoms) q.leg1
+    && leg_phases_ok t.crystal.vectors t.crystal.multiplicity (t.measures.supercell * t.measures.atoms) q.leg2
+    → o ≡ orders_ok t.measures.atoms t.symmetry t.crystal.vectors t.crystal.multiplicity t.crystal.forces.p2s q
+    → a && o ≡ points_fine t points
 unfolding phases_ok all_true all_true_after
-phases_told P S symmetry vectors multiplicity p2s w points i0 i1 i2 e0 e1 e2 l r = rw (l, r, e0, e1, e2, i0, i1, i2) refl
+phases_told t points e l r = rw (l, r, e) refl

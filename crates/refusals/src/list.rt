@@ -33,6 +33,9 @@ pub fn check_list(
     let count = check_count(list, triplets);
     let slots = check_slots(list * z.slots, z, flags, strengths.len(), work.len());
     let points = check_points(tables.measures.grid, triplets);
-    lower_of(count, lower_of(check_tables(tables), lower_of(slots, points)))?;
+    lower_of(
+        count,
+        lower_of(check_tables(tables), lower_of(slots, points)),
+    )?;
     require(list_phases_ok(tables, list, triplets), Refusal::Phase)
 }

@@ -1,16 +1,18 @@
 // Number 9: every phase that the work computes lies within the domain of the sine and cosine.
 ghost use Rattle.std.specs.Prelude.{◌≡◌, ◌&&◌, ◌*◌, ◌<◌};
-ghost use Rattle.phonon.specs.Handed.{grid_of};
+ghost use Rattle.phonon.specs.Handed.{grid_of, tables_of};
+ghost use Rattle.phonon.specs.Sets.{part};
 ghost use Rattle.phonon.specs.Tests.{every_below};
 ghost use Rattle.phonon.specs.Trig.{in_domain};
 ghost use Rattle.phonon.specs.Interaction.{order_count, exchanged, legs_at};
-ghost use Rattle.phonon.specs.Refusal.{leg_phases_ok, pre_phases_ok, orders_ok, phases_ok};
+ghost use Rattle.phonon.specs.RealToReciprocal.{pre_phase, anchor_vector};
+ghost use Rattle.phonon.specs.Refusal.{leg_phases_ok, pre_phases_ok, orders_ok};
 ghost use Rattle.real_to_reciprocal.specs.Shape.{Anchored, Ranged};
-ghost use Rattle.refusals.specs.Phases.{triplet_fine, Located};
+ghost use Rattle.refusals.specs.Phases.{Located, Readable, points_fine};
 
 use checks::limits;
 use phonon::{Crystal, Grid, Legs, Symmetry, Tables};
-use planes::{index_at, order_at};
+use planes::{index_at, order_at, part_of};
 use real_to_reciprocal::phases::{compute_q_vec, phase, pre_phase};
 
 fn in_domain(x: f64) -> bool
@@ -21,12 +23,7 @@ fn in_domain(x: f64) -> bool
 
 // Each vector of each entry of the multiplicities, at the q of the three legs. One pass reads each vector once, and by
 // `&` no branch depends on a phase: a way out at the first bad one would help only sets that are turned away.
-fn legs_phases_ok(
-    q: &Legs<[f64; 3]>,
-    vectors: &[f64],
-    multiplicity: &[i64],
-    entries: usize,
-) -> bool
+fn legs_phases_ok(q: &Legs<[f64; 3]>, vectors: &[f64], multiplicity: &[i64], entries: usize) -> bool
     requires { Ranged vectors.now multiplicity.now entries }
     ensures { result ≡ (leg_phases_ok vectors.now multiplicity.now entries q.now.leg0
         && leg_phases_ok vectors.now multiplicity.now entries q.now.leg1
@@ -47,20 +44,24 @@ fn legs_phases_ok(
     good
 }
 
-// Each atom, with the three q in one order.
+// Atom i, with the three q in one order.
+fn pre_phase_ok(q: &Legs<[f64; 3]>, crystal: &Crystal<'_>, atoms: usize, i: usize) -> bool
+    requires { (i < atoms)
+        × Anchored crystal.now.vectors.now crystal.now.multiplicity.now crystal.now.forces.p2s.now atoms }
+    ensures { result ≡ in_domain (pre_phase crystal.now.vectors.now q.now
+        (anchor_vector atoms crystal.now.multiplicity.now crystal.now.forces.p2s.now i)) }
+{
+    let n = 2 * (index_at(crystal.forces.p2s, i) * atoms) + 1;
+    in_domain(pre_phase(crystal.vectors, q, index_at(crystal.multiplicity, n)))
+}
+
+// Each atom.
 fn pre_phases_ok(q: &Legs<[f64; 3]>, crystal: &Crystal<'_>, atoms: usize) -> bool
     requires { Anchored crystal.now.vectors.now crystal.now.multiplicity.now crystal.now.forces.p2s.now atoms }
     ensures { result ≡ pre_phases_ok atoms crystal.now.vectors.now crystal.now.multiplicity.now
         crystal.now.forces.p2s.now q.now }
 {
-    for i in 0..atoms {
-        let n = 2 * (index_at(crystal.forces.p2s, i) * atoms) + 1;
-        let x = pre_phase(crystal.vectors, q, index_at(crystal.multiplicity, n));
-        if !in_domain(x) {
-            return false;
-        }
-    }
-    true
+    (0..atoms).all(|i| pre_phase_ok(q, crystal, atoms, i))
 }
 
 fn order_count(symmetry: Symmetry) -> usize
@@ -73,6 +74,7 @@ fn order_count(symmetry: Symmetry) -> usize
 }
 
 // The three q in order o.
+#[tactic(auto, unfolding(phonon::specs::Interaction::exchanged))]
 fn exchanged(q: &Legs<[f64; 3]>, o: usize) -> Legs<[f64; 3]>
     requires { o < 6 }
     ensures { result ≡ exchanged o q.now }
@@ -86,22 +88,12 @@ fn exchanged(q: &Legs<[f64; 3]>, o: usize) -> Legs<[f64; 3]>
 }
 
 // Each order of the legs that is used.
-fn orders_ok(
-    q: &Legs<[f64; 3]>,
-    symmetry: Symmetry,
-    crystal: &Crystal<'_>,
-    atoms: usize,
-) -> bool
+fn orders_ok(q: &Legs<[f64; 3]>, symmetry: Symmetry, crystal: &Crystal<'_>, atoms: usize) -> bool
     requires { Anchored crystal.now.vectors.now crystal.now.multiplicity.now crystal.now.forces.p2s.now atoms }
     ensures { result ≡ orders_ok atoms symmetry crystal.now.vectors.now crystal.now.multiplicity.now
         crystal.now.forces.p2s.now q.now }
 {
-    for o in 0..order_count(symmetry) {
-        if !pre_phases_ok(&exchanged(q, o), crystal, atoms) {
-            return false;
-        }
-    }
-    true
+    (0..order_count(symmetry)).all(|o| pre_phases_ok(&exchanged(q, o), crystal, atoms))
 }
 
 // The q of a triplet's three points.
@@ -120,38 +112,27 @@ fn legs_at(grid: &Grid<'_>, points: &[i64]) -> Legs<[f64; 3]>
 // The tests may not leave them in the work buffer: they end before the first write, and a set that is turned away
 // leaves all lent memory untouched.
 pub fn phases_ok(tables: &Tables<'_>, points: &[i64]) -> bool
-    requires { Located 3 points.now tables.now.grid.addresses.now
-        × Ranged tables.now.crystal.vectors.now tables.now.crystal.multiplicity.now
-        (tables.now.measures.supercell * tables.now.measures.atoms)
-        × Anchored tables.now.crystal.vectors.now tables.now.crystal.multiplicity.now
-        tables.now.crystal.forces.p2s.now tables.now.measures.atoms }
-    ensures { result ≡ phases_ok tables.now.measures.atoms tables.now.measures.supercell tables.now.symmetry
-        tables.now.crystal.vectors.now tables.now.crystal.multiplicity.now tables.now.crystal.forces.p2s.now
-        (legs_at (grid_of tables.now.grid) points.now) }
+    requires { Readable (tables_of tables.now) 3 points.now }
+    ensures { result ≡ points_fine (tables_of tables.now) points.now }
 {
     let m = tables.measures;
     let crystal = &tables.crystal;
     let q = legs_at(&tables.grid, points);
-    legs_phases_ok(&q, crystal.vectors, crystal.multiplicity, m.supercell * m.atoms)
-        & orders_ok(&q, tables.symmetry, crystal, m.atoms)
+    legs_phases_ok(
+        &q,
+        crystal.vectors,
+        crystal.multiplicity,
+        m.supercell * m.atoms,
+    ) & orders_ok(&q, tables.symmetry, crystal, m.atoms)
 }
 
 // Each triplet of a list.
 pub fn list_phases_ok(tables: &Tables<'_>, list: usize, triplets: &[i64]) -> bool
-    requires { Located (list * 3) triplets.now tables.now.grid.addresses.now
-        × Ranged tables.now.crystal.vectors.now tables.now.crystal.multiplicity.now
-        (tables.now.measures.supercell * tables.now.measures.atoms)
-        × Anchored tables.now.crystal.vectors.now tables.now.crystal.multiplicity.now
-        tables.now.crystal.forces.p2s.now tables.now.measures.atoms }
-    ensures { result ≡ every_below
-        (triplet_fine tables.now.measures.atoms tables.now.measures.supercell tables.now.symmetry
-        (grid_of tables.now.grid) tables.now.crystal.vectors.now tables.now.crystal.multiplicity.now
-        tables.now.crystal.forces.p2s.now triplets.now) list }
+    requires { Readable (tables_of tables.now) (list * 3) triplets.now }
+    ensures { result ≡ every_below (λ t. points_fine (tables_of tables.now) (part 3 t triplets.now)) list }
 {
     for t in 0..list {
-        let first = t * 3;
-        let points = &triplets[first..first + 3];
-        if !phases_ok(tables, points) {
+        if !phases_ok(tables, part_of(triplets, t, 3)) {
             return false;
         }
     }

@@ -71,7 +71,11 @@ fn mesh_ok(grid: &Grid<'_>) -> bool
 {
     checks::all_within(limits::LOWEST_MESH, limits::HIGHEST_MESH, &grid.mesh)
         & checks::all_within(limits::LOWEST_MATRIX, limits::HIGHEST_MATRIX, &grid.matrix)
-        & checks::all_within(limits::LOWEST_ADDRESS, limits::HIGHEST_ADDRESS, grid.addresses)
+        & checks::all_within(
+            limits::LOWEST_ADDRESS,
+            limits::HIGHEST_ADDRESS,
+            grid.addresses,
+        )
 }
 
 // All of them. The measures have been checked before.
@@ -82,8 +86,14 @@ pub fn check_tables(tables: &Tables<'_>) -> Result<(), Refusal>
     let crystal = &tables.crystal;
     let cutoff = tables.settings.cutoff;
     require(lengths_ok(tables), Refusal::Length)?;
-    require(indices_ok(tables.measures, crystal, tables.bands), Refusal::Index)?;
-    require(tables_finite(cutoff, crystal, &tables.phonons), Refusal::NotFinite)?;
+    require(
+        indices_ok(tables.measures, crystal, tables.bands),
+        Refusal::Index,
+    )?;
+    require(
+        tables_finite(cutoff, crystal, &tables.phonons),
+        Refusal::NotFinite,
+    )?;
     require(mesh_ok(&tables.grid), Refusal::Mesh)?;
     require(checks::all_positive(crystal.masses), Refusal::Mass)?;
     require(cutoff_ok(cutoff), Refusal::Cutoff)

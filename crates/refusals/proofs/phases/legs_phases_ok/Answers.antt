@@ -28,12 +28,12 @@ vector_in r n i h p q l = let a = ranged_at r n h in omega (arith, a.ends, r.roo
 pub loop-n-init : goal.loop-n-init
 loop-n-init c =
     let a = c.args in
-    (omega arith, sym (every_none (entry_fine a.vectors.now a.q0.now a.q1.now a.q2.now a.multiplicity.now)))
+    (omega arith, sym (every_none (entry_fine a.vectors.now a.q.now.leg0 a.q.now.leg1 a.q.now.leg2 a.multiplicity.now)))
 
 pub loop-i-init : goal.loop-i-init
 loop-i-init c =
     let a = c.args in
-    (omega arith, sym (rw (every_none (vectors_fine a.vectors.now a.q0.now a.q1.now a.q2.now c.index_at-start.result)) (and-true _)))
+    (omega arith, sym (rw (every_none (vectors_fine a.vectors.now a.q.now.leg0 a.q.now.leg1 a.q.now.leg2 c.index_at-start.result)) (and-true _)))
 
 pub overflow_add-v : goal.overflow_add-v
 overflow_add-v c =
@@ -53,8 +53,8 @@ loop-i-preserved c =
     let a = c.args in
     let l = c.loop-i in (
       omega (arith, c.loop-i-test.true),
-      every_behind (vectors_fine a.vectors.now a.q0.now a.q1.now a.q2.now c.index_at-start.result) l.i c.loop-n.good l.invariant.1
-          (vector_told a.vectors.now a.q0.now a.q1.now a.q2.now c.index_at-start.result l.i
+      every_behind (vectors_fine a.vectors.now a.q.now.leg0 a.q.now.leg1 a.q.now.leg2 c.index_at-start.result) l.i c.loop-n.good l.invariant.1
+          (vector_told a.vectors.now a.q.now.leg0 a.q.now.leg1 a.q.now.leg2 c.index_at-start.result l.i
           c.phase.ensures c.phase-in-loop-i.ensures c.phase-in-loop-i-2.ensures
           c.in_domain-x.ensures c.in_domain-y.ensures c.in_domain-z.ensures),
     )
@@ -64,13 +64,13 @@ loop-n-preserved c =
     let a = c.args in
     let l = c.loop-n in
     let all : c.loop-i.i ≡ c.index_at-count.result = omega arith in
-    let told = entry_is a.vectors.now a.q0.now a.q1.now a.q2.now a.multiplicity.now l.n c.index_at-count.ensures c.index_at-start.ensures in (
+    let told = entry_is a.vectors.now a.q.now.leg0 a.q.now.leg1 a.q.now.leg2 a.multiplicity.now l.n c.index_at-count.ensures c.index_at-start.ensures in (
       omega (arith, c.loop-n-test.true),
-      rw all at c.loop-i.invariant.1 ∙ every_step (entry_fine a.vectors.now a.q0.now a.q1.now a.q2.now a.multiplicity.now) l.n l.invariant.1 told,
+      rw all at c.loop-i.invariant.1 ∙ every_step (entry_fine a.vectors.now a.q.now.leg0 a.q.now.leg1 a.q.now.leg2 a.multiplicity.now) l.n l.invariant.1 told,
     )
 
 pub returns : goal.returns
 returns c =
     let a = c.args in
     let all : c.loop-n.n ≡ a.entries = omega arith in
-    rw all at c.loop-n.invariant.1 ∙ legs_are a.vectors.now a.q0.now a.q1.now a.q2.now a.multiplicity.now a.entries
+    rw all at c.loop-n.invariant.1 ∙ legs_are a.vectors.now a.q.now.leg0 a.q.now.leg1 a.q.now.leg2 a.multiplicity.now a.entries

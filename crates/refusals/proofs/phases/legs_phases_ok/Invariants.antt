@@ -7,7 +7,7 @@ use Rattle.refusals.proofs.PhaseLaws.{vectors_fine, entry_fine}
 use Rattle.refusals.proofs.phases.legs_phases_ok.Given as goal
 
 abbrev pub invariant-loop-i : goal.invariant-loop-i
-invariant-loop-i l = (l.i ≤ l.count) × (l.good ≡ l.initial.good && every_below (vectors_fine l.vectors l.q0 l.q1 l.q2 l.start) l.i)
+invariant-loop-i l = (l.i ≤ l.count) × (l.good ≡ l.initial.good && every_below (vectors_fine l.vectors l.q.leg0 l.q.leg1 l.q.leg2 l.start) l.i)
 
 abbrev pub invariant-loop-n : goal.invariant-loop-n
-invariant-loop-n l = (l.n ≤ l.entries) × (l.good ≡ every_below (entry_fine l.vectors l.q0 l.q1 l.q2 l.multiplicity) l.n)
+invariant-loop-n l = (l.n ≤ l.entries) × (l.good ≡ every_below (entry_fine l.vectors l.q.leg0 l.q.leg1 l.q.leg2 l.multiplicity) l.n)
