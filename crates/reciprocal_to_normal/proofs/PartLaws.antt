@@ -43,14 +43,3 @@ two_parts h w v =
       between = λ j p q. v.before j q ∙ w.after j (omega arith);
       after = λ j p. v.after j (omega arith) ∙ w.after j (omega arith);
     }
-
--- one run of 2 * d numbers, as both planes
-pub both_planes : {l l' : List Float} {off d : ℕ} {f : ℕ → Float} {g : ℕ → Complex} → Wrote l l' off (2 * d) f → ((k : ℕ) → k < d → record { re = f k; im = f (d + k) } ≡ g k) → WroteSplit l l' off d d g
-both_planes {l' = l'} {d = d} w e =
-    record {
-      size = w.size;
-      inside = λ k p. complex_eq (w.inside k (omega arith)) (ap (at l') (omega arith) ∙ w.inside (d + k) (omega arith)) ∙ e k p;
-      before = w.before;
-      between = λ j p q. absurd (omega arith);
-      after = λ j p. w.after j (omega arith);
-    }

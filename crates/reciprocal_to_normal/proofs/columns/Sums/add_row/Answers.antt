@@ -8,9 +8,6 @@ use Rattle.reciprocal_to_normal.proofs.ColumnLaws.{begun_none, begun_step, begun
 use native.Mathlib.Omega.{arith}
 use Rattle.reciprocal_to_normal.proofs.columns.Sums.add_row.Goals as goal
 
-pub loop-c-init : goal.loop-c-init
-loop-c-init g c = (omega arith, begun_none (search rules) (search rules))
-
 pub loop-c-preserved : goal.loop-c-preserved
 unfolding cadd
 loop-c-preserved g c =
@@ -20,8 +17,3 @@ loop-c-preserved g c =
       omega arith,
       begun_step inv c.loop-c-test.true (ap₂ (λ (x y : Complex). x.re ⊕ y.re) s p) (ap₂ (λ (x y : Complex). x.im ⊕ y.im) s p),
     )
-
-pub returns : goal.returns
-returns g c =
-    let e : c.loop-c.c ≡ g.row.N = omega arith in
-    begun_all (rw e at c.loop-c.invariant.1)
