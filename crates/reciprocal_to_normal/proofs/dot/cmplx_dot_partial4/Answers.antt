@@ -14,30 +14,6 @@ pub loop-i-init : goal.loop-i-init
 unfolding fold
 loop-i-init c = (omega arith, refl, refl, refl, refl)
 
-pub add_term-s0-requires : goal.add_term-s0-requires
-add_term-s0-requires c =
-    let a = c.args in
-    let h : 4 * c.loop-i.i < a.n = omega arith in
-    omega (arith, row_le a.y.step h)
-
-pub add_term-s1-requires : goal.add_term-s1-requires
-add_term-s1-requires c =
-    let a = c.args in
-    let h : 4 * c.loop-i.i + 1 < a.n = omega arith in
-    omega (arith, row_le a.y.step h)
-
-pub add_term-s2-requires : goal.add_term-s2-requires
-add_term-s2-requires c =
-    let a = c.args in
-    let h : 4 * c.loop-i.i + 2 < a.n = omega arith in
-    omega (arith, row_le a.y.step h)
-
-pub add_term-s3-requires : goal.add_term-s3-requires
-add_term-s3-requires c =
-    let a = c.args in
-    let h : 4 * c.loop-i.i + 3 < a.n = omega arith in
-    omega (arith, row_le a.y.step h)
-
 pub loop-i-preserved : goal.loop-i-preserved
 loop-i-preserved c =
     let a = c.args in

@@ -10,6 +10,11 @@ use Rattle.reciprocal_to_normal.proofs.ListingLaws.{above_append, above_to, abov
 use native.Mathlib.Omega.{arith}
 use Rattle.reciprocal_to_normal.proofs.listing.full_strengths.Goals as goal
 
+pub list_plane-requires-clause-sizes : goal.list_plane-requires-clause-sizes
+list_plane-requires-clause-sizes c =
+    let a = c.args in
+    omega (arith, row_le (3 * a.np * (3 * a.np)) c.loop-b-test.true, c.loop-b.invariant.1.size, c.contract_fc3_e0.ensures.size)
+
 pub loop-b-preserved : goal.loop-b-preserved
 loop-b-preserved c =
     let a = c.args in
