@@ -1,11 +1,10 @@
 -- After i blocks each partial sum has i terms; after the join, r terms of the remainder are added.
 use mathlib.Core.Path.{◌≡◌, refl, ap₂, ◌∙◌}
-use Prim.Native.Nat.{◌+◌, ◌*◌, ◌/◌, ◌%◌, ◌<◌}
+use Prim.Native.Nat.{◌+◌, ◌*◌, ◌/◌, ◌%◌}
 use Rattle.phonon.specs.Number.{fold}
 use Rattle.phonon.specs.Common.{czero, cadd}
 use Rattle.planes.specs.Split.{split}
 use Rattle.reciprocal_to_normal.specs.Places.{number_in}
-use Rattle.planes.proofs.Products.{row_le}
 use Rattle.reciprocal_to_normal.proofs.DotLaws.{turn, lane_done, first_lane_done, dot_done}
 use native.Mathlib.Omega.{arith}
 use Rattle.reciprocal_to_normal.proofs.dot.cmplx_dot_partial4.Goals as goal

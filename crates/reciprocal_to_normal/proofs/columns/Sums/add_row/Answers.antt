@@ -1,10 +1,9 @@
 -- The sums below c have one term more.
-use mathlib.Core.Path.{◌≡◌, ap, ap₂, ◌∙◌}
+use mathlib.Core.Path.{ap, ap₂, ◌∙◌}
 use Rattle.phonon.specs.declared.Complex.{Complex}
 use Rattle.phonon.specs.Number.{◌⊕◌}
 use Rattle.phonon.specs.Common.{cadd, cmul}
-use Rattle.std.proofs.Common.{rules}
-use Rattle.reciprocal_to_normal.proofs.ColumnLaws.{begun_none, begun_step, begun_all}
+use Rattle.reciprocal_to_normal.proofs.ColumnLaws.{begun_step}
 use native.Mathlib.Omega.{arith}
 use Rattle.reciprocal_to_normal.proofs.columns.Sums.add_row.Goals as goal
 

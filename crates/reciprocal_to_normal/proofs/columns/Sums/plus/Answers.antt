@@ -1,7 +1,7 @@
 -- The sums below c are added.
-use mathlib.Core.Path.{◌≡◌, refl}
+use mathlib.Core.Path.{refl}
 use Rattle.phonon.specs.Common.{cadd}
-use Rattle.reciprocal_to_normal.proofs.ColumnLaws.{begun_none, begun_step, begun_all}
+use Rattle.reciprocal_to_normal.proofs.ColumnLaws.{begun_step}
 use native.Mathlib.Omega.{arith}
 use Rattle.reciprocal_to_normal.proofs.columns.Sums.plus.Goals as goal
 
