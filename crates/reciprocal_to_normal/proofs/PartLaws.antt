@@ -1,13 +1,12 @@
 -- A part of a slice that was lent and has come back.
 use mathlib.Core.Path.{◌≡◌, ap, ◌∙◌}
 use mathlib.Core.List.{List, ◌++◌}
-use Prim.Native.Nat.{ℕ, ◌+◌, ◌-◌, ◌*◌, ◌<◌, ◌≤◌}
+use Prim.Native.Nat.{ℕ, ◌+◌, ◌-◌, ◌≤◌}
 use native.Mathlib.Omega.{arith}
 use lib.ListN.{length, get_or, take, drop, get_or-append}
 use lib.Seq.{length-take-le, get_or-take, get_or-drop, get_or-append_right}
 use borrow.Rule.Slice.PartMut.{put_mid, mid_of, post_of, same_len_mid, mid_len}
 use lib.Ieee.{Float, nan}
-use Rattle.phonon.specs.declared.Complex.{Complex}
 use Rattle.phonon.specs.Number.{at}
 use Rattle.planes.specs.Region.{Wrote}
 use Rattle.planes.specs.Split.{WroteSplit}
@@ -42,15 +41,4 @@ two_parts h w v =
       before = λ j p. v.before j (omega arith) ∙ w.before j p;
       between = λ j p q. v.before j q ∙ w.after j (omega arith);
       after = λ j p. v.after j (omega arith) ∙ w.after j (omega arith);
-    }
-
--- one run of 2 * d numbers, as both planes
-pub both_planes : {l l' : List Float} {off d : ℕ} {f : ℕ → Float} {g : ℕ → Complex} → Wrote l l' off (2 * d) f → ((k : ℕ) → k < d → record { re = f k; im = f (d + k) } ≡ g k) → WroteSplit l l' off d d g
-both_planes {l' = l'} {d = d} w e =
-    record {
-      size = w.size;
-      inside = λ k p. complex_eq (w.inside k (omega arith)) (ap (at l') (omega arith) ∙ w.inside (d + k) (omega arith)) ∙ e k p;
-      before = w.before;
-      between = λ j p q. absurd (omega arith);
-      after = λ j p. w.after j (omega arith);
     }

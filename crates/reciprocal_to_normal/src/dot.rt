@@ -19,10 +19,12 @@ fn add_term(s: Complex, w: &[f64], x: Planes, y: Vector, k: usize) -> Complex
 }
 
 // Four partial sums, joined (0 + 1) + (2 + 3), then the remainder.
+#[tactic(auto, using(planes::proofs::Products::row_le))]
 pub fn cmplx_dot_partial4(w: &[f64], x: Planes, y: Vector, n: usize) -> Complex
     requires { (n ≤ 3000) × (x.at + x.apart + n ≤ length w.now) × (y.at + y.apart + n * y.step < length w.now + y.step) }
     ensures { result ≡ dot n (split w.now x.at x.apart) (number_in w.now y) }
 {
+    // Four variables, as the source has them: an array of them would need a loop in this loop.
     let zero = Complex { re: 0.0, im: 0.0 };
     let mut s0 = zero;
     let mut s1 = zero;

@@ -149,6 +149,7 @@ fn fill_plane(out: &mut [f64], flags: &[u8], w: &mut [f64], p: &Plane<'_>, b: us
 
 // All slots, from the force constants at fo and the scaled eigenvectors of the three legs at e0, e1 and e2. From so on lie
 // the contracted matrix, its row and the amplitudes.
+#[tactic(auto, using(phonon::proofs::Accepted::index_below))]
 pub fn reciprocal_to_normal_squared(
     out: &mut [f64],
     flags: &[u8],

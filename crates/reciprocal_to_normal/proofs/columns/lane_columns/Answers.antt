@@ -1,9 +1,10 @@
 -- After i turns, partial sums of i terms.
 use mathlib.Core.Path.{◌≡◌, refl}
-use Prim.Native.Nat.{◌+◌, ◌*◌, ◌/◌}
+use Prim.Native.Nat.{◌+◌, ◌*◌, ◌/◌, ◌<◌}
 use Rattle.phonon.specs.Number.{fold}
 use Rattle.phonon.specs.Common.{czero}
 use Rattle.planes.proofs.SplitLaws.{split_at}
+use Rattle.planes.proofs.Products.{row_le}
 use Rattle.reciprocal_to_normal.specs.Places.{number_in, column_of}
 use Rattle.reciprocal_to_normal.proofs.ColumnLaws.{summed_ext}
 use Rattle.reciprocal_to_normal.proofs.DotLaws.{turn, lane_done}
@@ -13,6 +14,12 @@ use Rattle.reciprocal_to_normal.proofs.columns.lane_columns.Goals as goal
 pub loop-i-init : goal.loop-i-init
 unfolding fold
 loop-i-init g c = (omega arith, summed_ext c.none-t.ensures (λ q h. refl))
+
+pub get-requires : goal.get-requires
+get-requires g c =
+    let a = c.args in
+    let h : 4 * c.loop-i.i + a.p < a.n = omega arith in
+    omega (arith, row_le a.v.step h)
 
 pub loop-i-preserved : goal.loop-i-preserved
 loop-i-preserved g c =

@@ -1,11 +1,10 @@
 -- After i blocks each partial sum has i terms; after the join, r terms of the remainder are added.
 use mathlib.Core.Path.{◌≡◌, refl, ap₂, ◌∙◌}
-use Prim.Native.Nat.{◌+◌, ◌*◌, ◌/◌, ◌%◌, ◌<◌}
+use Prim.Native.Nat.{◌+◌, ◌*◌, ◌/◌, ◌%◌}
 use Rattle.phonon.specs.Number.{fold}
 use Rattle.phonon.specs.Common.{czero, cadd}
 use Rattle.planes.specs.Split.{split}
 use Rattle.reciprocal_to_normal.specs.Places.{number_in}
-use Rattle.planes.proofs.Products.{row_le}
 use Rattle.reciprocal_to_normal.proofs.DotLaws.{turn, lane_done, first_lane_done, dot_done}
 use native.Mathlib.Omega.{arith}
 use Rattle.reciprocal_to_normal.proofs.dot.cmplx_dot_partial4.Goals as goal
@@ -13,30 +12,6 @@ use Rattle.reciprocal_to_normal.proofs.dot.cmplx_dot_partial4.Goals as goal
 pub loop-i-init : goal.loop-i-init
 unfolding fold
 loop-i-init c = (omega arith, refl, refl, refl, refl)
-
-pub add_term-s0-requires : goal.add_term-s0-requires
-add_term-s0-requires c =
-    let a = c.args in
-    let h : 4 * c.loop-i.i < a.n = omega arith in
-    omega (arith, row_le a.y.step h)
-
-pub add_term-s1-requires : goal.add_term-s1-requires
-add_term-s1-requires c =
-    let a = c.args in
-    let h : 4 * c.loop-i.i + 1 < a.n = omega arith in
-    omega (arith, row_le a.y.step h)
-
-pub add_term-s2-requires : goal.add_term-s2-requires
-add_term-s2-requires c =
-    let a = c.args in
-    let h : 4 * c.loop-i.i + 2 < a.n = omega arith in
-    omega (arith, row_le a.y.step h)
-
-pub add_term-s3-requires : goal.add_term-s3-requires
-add_term-s3-requires c =
-    let a = c.args in
-    let h : 4 * c.loop-i.i + 3 < a.n = omega arith in
-    omega (arith, row_le a.y.step h)
 
 pub loop-i-preserved : goal.loop-i-preserved
 loop-i-preserved c =

@@ -11,30 +11,6 @@ use Rattle.reciprocal_to_normal.proofs.AmplitudeLaws.{plane_is}
 use native.Mathlib.Omega.{arith}
 use Rattle.reciprocal_to_normal.proofs.slots.reciprocal_to_normal_squared.Goals as goal
 
-pub offset_bounds-freqs-n : goal.offset_bounds-freqs-n
-offset_bounds-freqs-n c =
-    let a = c.args in
-    let h = index_below (3 * a.np) a.bands.now (omega arith) c.requires.tables.3 c.loop-b.b c.loop-b-test.true in
-    omega arith
-
-pub bounds-freqs-n : goal.bounds-freqs-n
-bounds-freqs-n c =
-    let a = c.args in
-    let h = index_below (3 * a.np) a.bands.now (omega arith) c.requires.tables.3 c.loop-b.b c.loop-b-test.true in
-    omega arith
-
-pub overflow_add-e : goal.overflow_add-e
-overflow_add-e c =
-    let a = c.args in
-    let h = index_below (3 * a.np) a.bands.now (omega arith) c.requires.tables.3 c.loop-b.b c.loop-b-test.true in
-    omega arith
-
-pub contract_fc3_e0-requires : goal.contract_fc3_e0-requires
-contract_fc3_e0-requires c =
-    let a = c.args in
-    let h = index_below (3 * a.np) a.bands.now (omega arith) c.requires.tables.3 c.loop-b.b c.loop-b-test.true in
-    omega arith
-
 pub loop-b-preserved : goal.loop-b-preserved
 loop-b-preserved c =
     let a = c.args in

@@ -1,15 +1,11 @@
 -- The sums below c have one term more.
-use mathlib.Core.Path.{◌≡◌, ap, ap₂, ◌∙◌}
+use mathlib.Core.Path.{ap, ap₂, ◌∙◌}
 use Rattle.phonon.specs.declared.Complex.{Complex}
 use Rattle.phonon.specs.Number.{◌⊕◌}
 use Rattle.phonon.specs.Common.{cadd, cmul}
-use Rattle.std.proofs.Common.{rules}
-use Rattle.reciprocal_to_normal.proofs.ColumnLaws.{begun_none, begun_step, begun_all}
+use Rattle.reciprocal_to_normal.proofs.ColumnLaws.{begun_step}
 use native.Mathlib.Omega.{arith}
 use Rattle.reciprocal_to_normal.proofs.columns.Sums.add_row.Goals as goal
-
-pub loop-c-init : goal.loop-c-init
-loop-c-init g c = (omega arith, begun_none (search rules) (search rules))
 
 pub loop-c-preserved : goal.loop-c-preserved
 unfolding cadd
@@ -20,8 +16,3 @@ loop-c-preserved g c =
       omega arith,
       begun_step inv c.loop-c-test.true (ap₂ (λ (x y : Complex). x.re ⊕ y.re) s p) (ap₂ (λ (x y : Complex). x.im ⊕ y.im) s p),
     )
-
-pub returns : goal.returns
-returns g c =
-    let e : c.loop-c.c ≡ g.row.N = omega arith in
-    begun_all (rw e at c.loop-c.invariant.1)

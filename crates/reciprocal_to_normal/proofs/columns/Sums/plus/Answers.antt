@@ -1,18 +1,10 @@
 -- The sums below c are added.
-use mathlib.Core.Path.{◌≡◌, refl}
+use mathlib.Core.Path.{refl}
 use Rattle.phonon.specs.Common.{cadd}
-use Rattle.reciprocal_to_normal.proofs.ColumnLaws.{begun_none, begun_step, begun_all}
+use Rattle.reciprocal_to_normal.proofs.ColumnLaws.{begun_step}
 use native.Mathlib.Omega.{arith}
 use Rattle.reciprocal_to_normal.proofs.columns.Sums.plus.Goals as goal
-
-pub loop-c-init : goal.loop-c-init
-loop-c-init g c = (omega arith, begun_none c.none-t.ensures.re_size c.none-t.ensures.im_size)
 
 pub loop-c-preserved : goal.loop-c-preserved
 unfolding cadd
 loop-c-preserved g c = (omega arith, begun_step c.loop-c.invariant.1 c.loop-c-test.true refl refl)
-
-pub returns : goal.returns
-returns g c =
-    let e : c.loop-c.c ≡ g.row.N = omega arith in
-    begun_all (rw e at c.loop-c.invariant.1)
