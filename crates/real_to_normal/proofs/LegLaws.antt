@@ -6,7 +6,7 @@ use native.Mathlib.Omega.{arith}
 use lib.ListN.{length, take, drop}
 use lib.IntN.{ℤ}
 use lib.Ieee.{Float}
-use Rattle.phonon.specs.Sets.{Legs}
+use Rattle.phonon.specs.declared.Legs.{Legs}
 use Rattle.phonon.specs.Interaction.{leg}
 use Rattle.phonon.specs.RealToReciprocal.{phase_factor_entry, phase_factors}
 use Rattle.phonon.specs.ReciprocalToNormal.{inverse_root, inverse_roots, column}

@@ -6,7 +6,8 @@ use native.Mathlib.Omega.{arith}
 use lib.IntN.{ℤ}
 use lib.Ieee.{Float}
 use Rattle.phonon.specs.declared.Anchoring.{Anchoring}
-use Rattle.phonon.specs.Sets.{Legs, Forces}
+use Rattle.phonon.specs.declared.Legs.{Legs}
+use Rattle.phonon.specs.Sets.{Forces}
 use Rattle.phonon.specs.Interaction.{leg}
 use Rattle.phonon.specs.RealToReciprocal.{phase_factors, pre_factor_entry, pre_factors, reciprocal_from}
 use Rattle.planes.specs.Split.{WroteSplit}

@@ -9,7 +9,8 @@ use lib.ListN.{length, get_or}
 use lib.Ieee.{Float, nan}
 use Rattle.phonon.specs.declared.Anchoring.{Anchoring}
 use Rattle.phonon.specs.Number.{◌⊕◌, ◌⊘◌, f0, f6, at, flagged, fold, table}
-use Rattle.phonon.specs.Sets.{Forces, Legs}
+use Rattle.phonon.specs.declared.Legs.{Legs}
+use Rattle.phonon.specs.Sets.{Forces}
 use Rattle.phonon.specs.Tests.{all_within}
 use Rattle.phonon.specs.Interaction.{orders, leg, exchanged}
 use Rattle.phonon.specs.ReciprocalToNormal.{strength}

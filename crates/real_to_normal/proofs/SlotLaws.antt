@@ -8,7 +8,8 @@ use lib.IntN.{ℤ, pos}
 use lib.ListN.{length, get_or}
 use lib.Ieee.{Float}
 use Rattle.phonon.specs.Number.{◌⊕◌, ◌⊘◌, f6, at, index, int, flagged, table}
-use Rattle.phonon.specs.Sets.{Legs, slot, part}
+use Rattle.phonon.specs.declared.Legs.{Legs}
+use Rattle.phonon.specs.Sets.{slot, part}
 use Rattle.phonon.specs.Tests.{all_within}
 use Rattle.phonon.specs.Interaction.{leg}
 use Rattle.phonon.specs.ReciprocalToNormal.{strength}

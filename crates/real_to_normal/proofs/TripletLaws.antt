@@ -12,7 +12,8 @@ use Rattle.phonon.specs.declared.Measures.{Measures}
 use Rattle.phonon.specs.declared.Symmetry.{Symmetry}
 use Rattle.phonon.specs.declared.Symmetry.TheVariants.{Off, Symmetrized}
 use Rattle.phonon.specs.Number.{◌⊕◌, ◌⊘◌, f0, f6, at, flagged, fold, table}
-use Rattle.phonon.specs.Sets.{Forces, Triplet, slots, Legs}
+use Rattle.phonon.specs.declared.Legs.{Legs}
+use Rattle.phonon.specs.Sets.{Forces, Triplet, slots}
 use Rattle.phonon.specs.Tests.{all_within}
 use Rattle.phonon.specs.RealToReciprocal.{q_at, reciprocal}
 use Rattle.phonon.specs.ReciprocalToNormal.{inverse_roots, Phonon, phonon_at, strength}

@@ -11,7 +11,8 @@ use Rattle.phonon.specs.declared.Measures.{Measures}
 use Rattle.phonon.specs.declared.Symmetry.{Symmetry}
 use Rattle.phonon.specs.declared.Symmetry.TheVariants.{Off, Symmetrized}
 use Rattle.phonon.specs.Number.{◌⊕◌, ◌⊘◌, f0, f6, index, int, flagged, fold}
-use Rattle.phonon.specs.Sets.{Phonons, Tables, Legs, part}
+use Rattle.phonon.specs.declared.Legs.{Legs}
+use Rattle.phonon.specs.Sets.{Phonons, Tables, part}
 use Rattle.phonon.specs.Tests.{all_within}
 use Rattle.phonon.specs.Interaction.{leg, exchanged}
 use Rattle.phonon.specs.RealToReciprocal.{phase_factors, reciprocal}

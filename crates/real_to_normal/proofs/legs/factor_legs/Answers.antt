@@ -1,7 +1,7 @@
 -- One call, which writes the stretches of all three legs.
 use mathlib.Core.List.{List}
 use lib.Ieee.{Float}
-use Rattle.phonon.specs.Sets.{Legs}
+use Rattle.phonon.specs.declared.Legs.{Legs}
 use Rattle.real_to_normal.proofs.LegLaws.{legs_factored, factored_outside}
 use Rattle.real_to_normal.proofs.legs.factor_legs.Goals as goal
 

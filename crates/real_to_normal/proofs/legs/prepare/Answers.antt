@@ -1,7 +1,7 @@
 -- Inverse roots, columns and factors stand side by side, and no later one touches an earlier.
 use mathlib.Core.List.{List}
 use lib.Ieee.{Float}
-use Rattle.phonon.specs.Sets.{Legs}
+use Rattle.phonon.specs.declared.Legs.{Legs}
 use Prim.Native.Nat.{ℕ, ◌≤◌}
 use lib.ListN.{length}
 use Rattle.real_to_normal.proofs.LegLaws.{prepared, prepared_outside}

@@ -1,7 +1,8 @@
 -- The legs picked in this order hand their factors and pre-factors to the blocks.
 use mathlib.Core.List.{List}
 use lib.Ieee.{Float}
-use Rattle.phonon.specs.Sets.{Legs, Forces}
+use Rattle.phonon.specs.declared.Legs.{Legs}
+use Rattle.phonon.specs.Sets.{Forces}
 use Rattle.real_to_normal.proofs.PlaceLaws.{factors_end, pre_end, region_fits}
 use Rattle.real_to_normal.proofs.OrderLaws.{order_is, order_outside}
 use Rattle.real_to_normal.proofs.order.order_constants.Goals as goal

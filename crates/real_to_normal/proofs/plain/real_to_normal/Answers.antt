@@ -1,6 +1,6 @@
 -- The order 0, 1, 2, and the slots from the columns that were prepared.
 use Prim.Native.Nat.{ℕ}
-use Rattle.phonon.specs.Sets.{Legs}
+use Rattle.phonon.specs.declared.Legs.{Legs}
 use Rattle.real_to_normal.specs.Work.{constants_at}
 use Rattle.real_to_normal.proofs.PlaceLaws.{columns_pre, outside_scratch}
 use Rattle.real_to_normal.proofs.SlotLaws.{plain_is}

@@ -1,6 +1,6 @@
 -- The full listing of one order, and a sixth of it gathered into the slots.
 use Prim.Native.Nat.{ℕ}
-use Rattle.phonon.specs.Sets.{Legs}
+use Rattle.phonon.specs.declared.Legs.{Legs}
 use Rattle.reciprocal_to_normal.proofs.ListingLaws.{outside_above}
 use Rattle.real_to_normal.specs.Work.{constants_at, scratch_at, listing_at}
 use Rattle.real_to_normal.proofs.PlaceLaws.{columns_end, columns_pre, constants_end, scratch_end, listing_fits, outside_listing}

@@ -11,7 +11,8 @@ use Prim.Native.Nat.{ℕ, ◌*◌, ◌<◌}
 use lib.ListN.{length, get_or}
 use lib.Ieee.{Float}
 use mathlib.Core.List.{List}
-use Rattle.phonon.specs.Sets.{Forces, Legs}
+use Rattle.phonon.specs.declared.Legs.{Legs}
+use Rattle.phonon.specs.Sets.{Forces}
 use native.Mathlib.Omega.{arith}
 use Rattle.real_to_normal.proofs.symmetrized.real_to_normal_sym_q.Goals as goal
 

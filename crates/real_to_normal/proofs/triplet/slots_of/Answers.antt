@@ -2,7 +2,8 @@
 use Prim.Native.Nat.{ℕ}
 use mathlib.Core.List.{List}
 use lib.Ieee.{Float}
-use Rattle.phonon.specs.Sets.{Legs, Forces}
+use Rattle.phonon.specs.declared.Legs.{Legs}
+use Rattle.phonon.specs.Sets.{Forces}
 use Rattle.real_to_normal.proofs.PlaceLaws.{outside_legs}
 use Rattle.real_to_normal.proofs.TripletLaws.{off_values, six_values}
 use Rattle.real_to_normal.proofs.triplet.slots_of.Goals as goal
