@@ -30,8 +30,8 @@ pub fn joined_at_triplet(
           triplet = triplet;
           flags = flags.now;
           bath = bath;
-          first = integration.first.now;
-          second = integration.second.now;
+          first = integration.entry.first.now;
+          second = integration.entry.second.now;
           strengths = strengths.old;
           totals = totals.old;
           work = work.old;

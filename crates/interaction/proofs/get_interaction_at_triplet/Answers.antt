@@ -1,22 +1,11 @@
 -- A set that fails a test is answered with its number and left as it is; one that passes is handed to the worker.
-use mathlib.Core.Path.{refl, sym, ◌∙◌}
-use Rattle.checks.proofs.AnswerLaws.{passes}
+use mathlib.Core.Path.{sym}
+use Rattle.checks.proofs.AnswerLaws.{handed_on}
 use Rattle.interaction.proofs.DoorLaws.{refused, accepted}
 use Rattle.interaction.proofs.get_interaction_at_triplet.Goals as goal
 
-pub returns-in_default : goal.returns-in_default
-returns-in_default c =
-    let a = c.args in
-    refused _ a.m _ _ _ (c.check_triplet-checked.ensures a.strengths.now a.work.now refl refl) c.in_default.is c.answer_of.ensures
-
--- the tests have passed, and told the measures
-pub work_triplet-requires : goal.work_triplet-requires
-work_triplet-requires c =
-    let told = passes _ _ _ (sym c.in-Good.is ∙ c.check_triplet-checked.ensures c.args.strengths.now c.args.work.now refl refl) in
-    (refl, rw told.1 told.0)
+pub returns-in_err-check_triplet : goal.returns-in_err-check_triplet
+returns-in_err-check_triplet c = refused _ (handed_on c.from_residual.result c.from_residual.ensures.1) c.in_err-check_triplet.ensures
 
 pub returns : goal.returns
-returns c =
-    let told = passes _ _ _ (sym c.in-Good.is ∙ c.check_triplet-checked.ensures c.args.strengths.now c.args.work.now refl refl) in
-    let r = rw told.1 at c.work_triplet.ensures in
-    accepted _ told.0 r.0 r.1
+returns c = let r = c.work_triplet.ensures in accepted _ (sym c.in_ok-check_triplet.ensures) r.0 r.1
