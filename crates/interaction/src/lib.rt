@@ -13,6 +13,7 @@ use real_to_normal::triplet::work_triplet;
 use refusals::triplet::check_triplet;
 
 // One triplet: document 01's first door.
+#[tactic(auto, using(crate::proofs::DoorLaws::refused, crate::proofs::DoorLaws::accepted))]
 pub fn get_interaction_at_triplet(
     tables: &Tables<'_>,
     triplet: [i64; 3],

@@ -54,6 +54,7 @@ fn work_list(
 }
 
 // A list of triplets: document 01's second door.
+#[tactic(auto, using(crate::proofs::DoorLaws::list_refused, crate::proofs::DoorLaws::list_accepted))]
 pub fn get_interaction(
     tables: &Tables<'_>,
     list: usize,

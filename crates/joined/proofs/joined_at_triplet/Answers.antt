@@ -1,15 +1,11 @@
--- A set that fails a test is answered with its number and left as it is; one that passes is handed to the worker, and its strengths to the sum.
+-- A set that passes the tests is handed to the worker, and its strengths to the sum.
 use mathlib.Core.Path.{sym}
 use native.Mathlib.Omega.{arith}
 use borrow.Author.Rules.{rules}
 use Rattle.phonon.proofs.Shares.{joined_share}
-use Rattle.checks.proofs.AnswerLaws.{handed_on}
 use Rattle.real_to_normal.proofs.AcceptedLaws.{frequency_fits}
-use Rattle.joined.proofs.JoinedLaws.{lengths, few, sized, accepted, refused}
+use Rattle.joined.proofs.JoinedLaws.{lengths, few, sized, accepted}
 use Rattle.joined.proofs.joined_at_triplet.Goals as goal
-
-pub returns-in_err-check_joined : goal.returns-in_err-check_joined
-returns-in_err-check_joined c = refused _ (handed_on c.from_residual.result c.from_residual.ensures.1) c.in_err-check_joined.ensures
 
 pub work_triplet-requires : goal.work_triplet-requires
 work_triplet-requires c = joined_share _ (sym c.in_ok-check_joined.ensures)
