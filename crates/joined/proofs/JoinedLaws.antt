@@ -6,22 +6,20 @@ use mathlib.Core.List.{List}
 use borrow.Author.Tests.{eqb-true}
 use lib.Ieee.{Float}
 use lib.ListN.{length}
-use Rattle.phonon.specs.declared.Answer.{Answer}
-use Rattle.phonon.specs.declared.Answer.TheVariants.{Accepted}
-use Rattle.phonon.specs.declared.Measures.{Measures}
+use Rattle.std.specs.Prelude.{Result, Err}
+use Rattle.phonon.specs.declared.Refusal.{Refusal}
 use Rattle.phonon.specs.declared.Weights.TheVariants.{PerSlot}
+use Rattle.phonon.specs.Answers.{number, number_of}
 use Rattle.phonon.specs.Sets.{bands_of, slots, JoinedSet, triplet_of, of_joined}
 use Rattle.phonon.specs.Limits.{sizes_of, entries_of}
 use Rattle.phonon.specs.Interaction.{strengths}
 use Rattle.phonon.specs.ImagSelfEnergy.{totals, sum_joined}
 use Rattle.phonon.specs.Refusal.{bath_lengths, triplet_tests, triplet_refusal, joined_refusal}
-use Rattle.phonon.specs.Doors.{cleared, answer_for, JoinedOutcome, joined_with, joined_leaves, joined_outcome}
+use Rattle.phonon.specs.Doors.{cleared, JoinedOutcome, joined_with, joined_leaves, joined_outcome}
+use Rattle.phonon.proofs.Answers.{number_positive}
 use Rattle.phonon.proofs.Lowest.{none_both, passing}
 use Rattle.phonon.proofs.Accepted.{holds}
 use Rattle.phonon.proofs.Shares.{joined_share}
-use Rattle.checks.specs.declared.verdict.Checked.{Checked}
-use Rattle.checks.specs.declared.verdict.Checked.TheVariants.{Bad}
-use Rattle.checks.specs.Answers.{checked_of, answer_of}
 use Rattle.checks.proofs.AnswerLaws.{turned_back}
 use Rattle.real_to_normal.proofs.AcceptedLaws.{facts}
 use Rattle.imag_self_energy.specs.Bands.{Sized}
@@ -61,12 +59,12 @@ module _ (s : JoinedSet) (e : joined_refusal s ≡ 0) where
       }
 
   pub accepted : {v u w : List Float} → v ≡ strengths (of_joined s) s.strengths → u ≡ totals (length s.totals) (sum_joined s) s.bath.temperature v → w ≡ cleared s.tables.measures s.work
-      → ◌≡◌ {A = JoinedOutcome} (record { answer = Accepted; strengths = v; totals = u; work = w }) (joined_outcome s)
-  unfolding joined_outcome joined_leaves joined_with answer_for
+      → ◌≡◌ {A = JoinedOutcome} (record { answer = 0; strengths = v; totals = u; work = w }) (joined_outcome s)
+  unfolding joined_outcome joined_leaves joined_with
   accepted p q r = rw (e, q, p, r, (lengths s e).totals) refl
 
-pub refused : (s : JoinedSet) (m : Measures) (a : Answer) (b : Checked) (n : ℕ) → b ≡ checked_of (joined_refusal s) m → b ≡ Bad n → a ≡ answer_of b
-    → ◌≡◌ {A = JoinedOutcome} (record { answer = a; strengths = s.strengths; totals = s.totals; work = s.work }) (joined_outcome s)
+pub refused : (s : JoinedSet) {a : Result Unit Refusal} {r : Refusal} → a ≡ Err r → number r ≡ joined_refusal s
+    → ◌≡◌ {A = JoinedOutcome} (record { answer = number_of a; strengths = s.strengths; totals = s.totals; work = s.work }) (joined_outcome s)
 unfolding joined_outcome joined_leaves
-refused s m =
-    turned_back (λ r. joined_leaves r s) (λ a. record { answer = a; strengths = s.strengths; totals = s.totals; work = s.work }) (λ n. refl) (joined_refusal s) m
+refused s {r = r} h e =
+    rw h (turned_back (λ n. joined_leaves n s) (λ n. record { answer = n; strengths = s.strengths; totals = s.totals; work = s.work }) (λ n. refl) (number_positive r) e)

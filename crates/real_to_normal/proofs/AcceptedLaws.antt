@@ -11,12 +11,13 @@ use Rattle.phonon.specs.declared.Form.{Form}
 use Rattle.phonon.specs.declared.Form.TheVariants.{Compact, Full}
 use Rattle.phonon.specs.declared.Measures.{Measures}
 use Rattle.phonon.specs.Number.{index, int}
+use Rattle.phonon.specs.declared.Legs.{Legs}
 use Rattle.phonon.specs.Sets.{TripletSet}
 use Rattle.phonon.specs.Limits.{work_length, rows_of}
 use Rattle.phonon.specs.Refusal.{points_ok, triplet_refusal}
 use Rattle.phonon.proofs.Accepted.{Accepted, accepted_facts, index_below}
 use Rattle.real_to_reciprocal.specs.Shape.{Ranged, Anchored, rows_for, Shaped}
-use Rattle.real_to_normal.specs.Work.{end_at}
+use Rattle.real_to_normal.specs.Work.{end_at, work_end, Shapes, Frequencies, Eigenvectors, Slots}
 
 rows_are : (form : Form) (m : Measures) → rows_of form m ≡ rows_for form m.atoms m.supercell
 unfolding rows_of
@@ -56,11 +57,11 @@ module _ (s : TripletSet) (e : triplet_refusal s ≡ 0) where
         ranges = facts.indexed.ranges;
       }
 
-  pub anchored : Anchored s.tables.crystal.vectors s.tables.crystal.multiplicity s.tables.crystal.forces.p2s P
+  anchored : Anchored s.tables.crystal.vectors s.tables.crystal.multiplicity s.tables.crystal.forces.p2s P
   anchored =
       record { supercell = S; some = facts.measured.supercell; atoms = facts.sized.p2s; anchors = facts.indexed.p2s; ranged = ranged }
 
-  pub shaped : Shaped P S s.tables.crystal.forces
+  shaped : Shaped P S s.tables.crystal.forces
   shaped =
       record {
         some = facts.measured.supercell;
@@ -72,16 +73,23 @@ module _ (s : TripletSet) (e : triplet_refusal s ≡ 0) where
         constants = facts.sized.constants ∙ ap (λ (r : ℕ). r * S * S * 27) (rows_are s.tables.crystal.forces.form s.tables.measures);
       }
 
-  pub atoms_few : P ≤ 256
-  atoms_few = omega (arith, facts.measured.atoms_most)
+  pub shapes : Shapes s.tables
+  shapes =
+      record {
+        atoms = omega (arith, facts.measured.atoms_most);
+        supercell = omega (arith, facts.measured.supercell_most);
+        anchored = anchored;
+        shaped = shaped;
+      }
 
-  pub supercell_few : S ≤ 256
-  supercell_few = omega (arith, facts.measured.supercell_most)
+  pub slots : Slots s.tables s.flags s.strengths
+  slots =
+      record { strengths = rw facts.sized.bands facts.strengths; flags = rw facts.sized.bands facts.flags; bands = facts.indexed.bands }
 
   pub masses_fit : P ≤ length s.tables.crystal.masses
   masses_fit = omega (arith, facts.sized.masses)
 
-  pub room : end_at P S ≤ length s.work
+  pub room : work_end s.tables.measures ≤ length s.work
   room = omega (arith, end_fits P S facts.measured.atoms, facts.work)
 
   -- a grid point of the triplet
@@ -101,7 +109,17 @@ module _ (s : TripletSet) (e : triplet_refusal s ≡ 0) where
         let a : (g + 1) * (3 * P) ≤ s.tables.measures.grid * (3 * P) = rw add-one (mul-le-mul_right (3 * P) point_lt) in
         omega (arith, facts.sized.frequencies)
 
-    pub eigenvector_fits : 2 * ((g + 1) * (3 * P * (3 * P))) ≤ length s.tables.phonons.eigenvectors
+    eigenvector_fits : 2 * ((g + 1) * (3 * P * (3 * P))) ≤ length s.tables.phonons.eigenvectors
     eigenvector_fits =
         let a : (g + 1) * (3 * P * (3 * P)) ≤ s.tables.measures.grid * (3 * P * (3 * P)) = rw add-one (mul-le-mul_right (3 * P * (3 * P)) point_lt) in
         omega (arith, facts.sized.eigenvectors)
+
+  -- the grid points of the three legs
+  module _ {p : Legs ℕ} (e0 : p.leg0 ≡ g 0) (e1 : p.leg1 ≡ g 1) (e2 : p.leg2 ≡ g 2) where
+    pub frequencies_fit : Frequencies (3 * P) s.tables.phonons.frequencies p
+    frequencies_fit =
+        record { leg0 = rw e0 (frequency_fits 0); leg1 = rw e1 (frequency_fits 1); leg2 = rw e2 (frequency_fits 2) }
+
+    pub eigenvectors_fit : Eigenvectors (3 * P) s.tables.phonons.eigenvectors p
+    eigenvectors_fit =
+        record { leg0 = rw e0 (eigenvector_fits 0); leg1 = rw e1 (eigenvector_fits 1); leg2 = rw e2 (eigenvector_fits 2) }

@@ -6,7 +6,8 @@ use native.Mathlib.Omega.{arith}
 use lib.ListN.{length, take, drop}
 use lib.IntN.{ℤ}
 use lib.Ieee.{Float}
-use Rattle.phonon.specs.Sets.{Legs}
+use Rattle.phonon.specs.declared.Legs.{Legs}
+use Rattle.phonon.specs.Sets.{Tables}
 use Rattle.phonon.specs.Interaction.{leg}
 use Rattle.phonon.specs.RealToReciprocal.{phase_factor_entry, phase_factors}
 use Rattle.phonon.specs.ReciprocalToNormal.{inverse_root, inverse_roots, column}
@@ -20,12 +21,12 @@ use Rattle.real_to_normal.specs.Work.{columns_at, factors_at, pre_at, Prepared}
 
 -- ---- scaled eigenvectors
 
-module _ (P : ℕ) (eig : List Float) (g0 g1 g2 : ℕ) {l l₁ l₂ l₃ : List Float} (room : P ≤ length l)
-    (s₀ : (n : ℕ) → n < 3 * P → column_in l₁ P (3 * P) n ≡ column (3 * P) eig (take P (drop 0 l)) g0 n)
+module _ (P : ℕ) (eig : List Float) (g : Legs ℕ) {l l₁ l₂ l₃ : List Float} (room : P ≤ length l)
+    (s₀ : (n : ℕ) → n < 3 * P → column_in l₁ P (3 * P) n ≡ column (3 * P) eig (take P (drop 0 l)) g.leg0 n)
     (k₀ : SameOutside l l₁ P (P + 2 * (3 * P * (3 * P))))
-    (s₁ : (n : ℕ) → n < 3 * P → column_in l₂ (P + 2 * (3 * P * (3 * P))) (3 * P) n ≡ column (3 * P) eig (take P (drop 0 l₁)) g1 n)
+    (s₁ : (n : ℕ) → n < 3 * P → column_in l₂ (P + 2 * (3 * P * (3 * P))) (3 * P) n ≡ column (3 * P) eig (take P (drop 0 l₁)) g.leg1 n)
     (k₁ : SameOutside l₁ l₂ (P + 2 * (3 * P * (3 * P))) (P + 2 * (3 * P * (3 * P)) + 2 * (3 * P * (3 * P))))
-    (s₂ : (n : ℕ) → n < 3 * P → column_in l₃ (P + 2 * (3 * P * (3 * P)) + 2 * (3 * P * (3 * P))) (3 * P) n ≡ column (3 * P) eig (take P (drop 0 l₂)) g2 n)
+    (s₂ : (n : ℕ) → n < 3 * P → column_in l₃ (P + 2 * (3 * P * (3 * P)) + 2 * (3 * P * (3 * P))) (3 * P) n ≡ column (3 * P) eig (take P (drop 0 l₂)) g.leg2 n)
     (k₂ : SameOutside l₂ l₃ (P + 2 * (3 * P * (3 * P)) + 2 * (3 * P * (3 * P))) (P + 2 * (3 * P * (3 * P)) + 2 * (3 * P * (3 * P)) + 2 * (3 * P * (3 * P)))) where
   abbrev D : ℕ
   D = 3 * P * (3 * P)
@@ -36,16 +37,16 @@ module _ (P : ℕ) (eig : List Float) (g0 g1 g2 : ℕ) {l l₁ l₂ l₃ : List 
   inv₂ : take P (drop 0 l₂) ≡ take P (drop 0 l)
   inv₂ = reals_below k₁ 0 P (omega arith) (omega (arith, k₀.size)) ∙ inv₁
 
-  pub legs_scaled : (x n : ℕ) → x < 3 → n < 3 * P → column_in l₃ (columns_at P x) (3 * P) n ≡ column (3 * P) eig (take P (drop 0 l)) (leg (record { leg0 = g0; leg1 = g1; leg2 = g2 }) x) n
+  pub legs_scaled : (x n : ℕ) → x < 3 → n < 3 * P → column_in l₃ (columns_at P x) (3 * P) n ≡ column (3 * P) eig (take P (drop 0 l)) (leg g x) n
   legs_scaled zero n h p =
       let e : P + 0 * (2 * D) ≡ P = omega arith in
       ap (λ o. column_in l₃ o (3 * P) n) e ∙ column_below k₂ P (3 * P) n (omega arith) p ∙ column_below k₁ P (3 * P) n (omega arith) p ∙ s₀ n p
   legs_scaled (suc zero) n h p =
       let e : P + 1 * (2 * D) ≡ P + 2 * D = omega arith in
-      ap (λ o. column_in l₃ o (3 * P) n) e ∙ column_below k₂ (P + 2 * D) (3 * P) n (omega arith) p ∙ s₁ n p ∙ ap (λ v. column (3 * P) eig v g1 n) inv₁
+      ap (λ o. column_in l₃ o (3 * P) n) e ∙ column_below k₂ (P + 2 * D) (3 * P) n (omega arith) p ∙ s₁ n p ∙ ap (λ v. column (3 * P) eig v g.leg1 n) inv₁
   legs_scaled (suc (suc zero)) n h p =
       let e : P + 2 * (2 * D) ≡ P + 2 * D + 2 * D = omega arith in
-      ap (λ o. column_in l₃ o (3 * P) n) e ∙ s₂ n p ∙ ap (λ v. column (3 * P) eig v g2 n) inv₂
+      ap (λ o. column_in l₃ o (3 * P) n) e ∙ s₂ n p ∙ ap (λ v. column (3 * P) eig v g.leg2 n) inv₂
   legs_scaled (suc (suc (suc x))) n h p = absurd (omega arith)
 
   pub legs_outside : SameOutside l l₃ P (columns_at P 3)
@@ -66,30 +67,37 @@ module _ (P S : ℕ) (vectors : List Float) (multiplicity : List ℤ) (q : Legs 
 
 -- ---- all of it
 
-module _ (P S : ℕ) (masses eig vectors : List Float) (multiplicity : List ℤ) (g : Legs ℕ) (q : Legs (List Float)) {l l₁ l₂ l₃ : List Float} (room : P ≤ length l)
-    (r : Wrote l l₁ 0 P (inverse_root masses))
-    (s : (x n : ℕ) → x < 3 → n < 3 * P → column_in l₂ (columns_at P x) (3 * P) n ≡ column (3 * P) eig (take P (drop 0 l₁)) (leg g x) n)
-    (ks : SameOutside l₁ l₂ P (columns_at P 3))
-    (f : (x : ℕ) → x < 3 → numbers_in l₃ (factors_at P S x) (P * S) (P * S) ≡ phase_factors P S vectors multiplicity (leg q x))
-    (kf : SameOutside l₂ l₃ (columns_at P 3) (pre_at P S)) where
-  roots : take P (drop 0 l₁) ≡ inverse_roots P masses
-  unfolding inverse_roots
-  roots = reals_wrote r (omega arith)
+module _ (t : Tables) (g : Legs ℕ) (q : Legs (List Float)) where
+  abbrev P : ℕ
+  P = t.measures.atoms
 
-  columns_in : (x n : ℕ) → x < 3 → n < 3 * P → column_in l₃ (columns_at P x) (3 * P) n ≡ column (3 * P) eig (inverse_roots P masses) (leg g x) n
-  columns_in x n h p =
-      column_below kf (columns_at P x) (3 * P) n (region x h) p ∙ s x n h p ∙ ap (λ v. column (3 * P) eig v (leg g x) n) roots
-    where
-      region : (x : ℕ) → x < 3 → columns_at P x + 2 * (3 * P * (3 * P)) ≤ columns_at P 3
-      region zero h = omega arith
-      region (suc zero) h = omega arith
-      region (suc (suc zero)) h = omega arith
-      region (suc (suc (suc x))) h = absurd (omega arith)
+  abbrev S : ℕ
+  S = t.measures.supercell
 
-  pub prepared : Prepared l₃ P S masses eig vectors multiplicity g q
-  prepared = record { columns = columns_in; factors = f }
+  module _ {l l₁ l₂ l₃ : List Float} (room : P ≤ length l)
+      (r : Wrote l l₁ 0 P (inverse_root t.crystal.masses))
+      (s : (x n : ℕ) → x < 3 → n < 3 * P → column_in l₂ (columns_at P x) (3 * P) n ≡ column (3 * P) t.phonons.eigenvectors (take P (drop 0 l₁)) (leg g x) n)
+      (ks : SameOutside l₁ l₂ P (columns_at P 3))
+      (f : (x : ℕ) → x < 3 → numbers_in l₃ (factors_at P S x) (P * S) (P * S) ≡ phase_factors P S t.crystal.vectors t.crystal.multiplicity (leg q x))
+      (kf : SameOutside l₂ l₃ (columns_at P 3) (pre_at P S)) where
+    roots : take P (drop 0 l₁) ≡ inverse_roots P t.crystal.masses
+    unfolding inverse_roots
+    roots = reals_wrote r (omega arith)
 
-  pub prepared_outside : SameOutside l l₃ 0 (pre_at P S)
-  prepared_outside =
-      outside_then (outside_wrote 0 (pre_at P S) (omega arith) (omega arith) r)
-      (outside_then (outside_wider 0 (pre_at P S) (omega arith) (omega arith) ks) (outside_wider 0 (pre_at P S) (omega arith) (omega arith) kf))
+    columns_in : (x n : ℕ) → x < 3 → n < 3 * P → column_in l₃ (columns_at P x) (3 * P) n ≡ column (3 * P) t.phonons.eigenvectors (inverse_roots P t.crystal.masses) (leg g x) n
+    columns_in x n h p =
+        column_below kf (columns_at P x) (3 * P) n (region x h) p ∙ s x n h p ∙ ap (λ v. column (3 * P) t.phonons.eigenvectors v (leg g x) n) roots
+      where
+        region : (x : ℕ) → x < 3 → columns_at P x + 2 * (3 * P * (3 * P)) ≤ columns_at P 3
+        region zero h = omega arith
+        region (suc zero) h = omega arith
+        region (suc (suc zero)) h = omega arith
+        region (suc (suc (suc x))) h = absurd (omega arith)
+
+    pub prepared : Prepared l₃ t g q
+    prepared = record { columns = columns_in; factors = record { factors = f } }
+
+    pub prepared_outside : SameOutside l l₃ 0 (pre_at P S)
+    prepared_outside =
+        outside_then (outside_wrote 0 (pre_at P S) (omega arith) (omega arith) r)
+        (outside_then (outside_wider 0 (pre_at P S) (omega arith) (omega arith) ks) (outside_wider 0 (pre_at P S) (omega arith) (omega arith) kf))

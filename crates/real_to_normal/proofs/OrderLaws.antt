@@ -1,68 +1,90 @@
 -- One leg order: the tables that lie before the force constants are what the definition reads.
 use mathlib.Core.Path.{◌≡◌, refl, ap, ◌∙◌}
 use mathlib.Core.List.{List}
-use Prim.Native.Nat.{ℕ, zero, suc, ◌+◌, ◌*◌, ◌<◌}
+use Prim.Native.Nat.{ℕ, zero, suc, ◌+◌, ◌*◌, ◌<◌, ◌≤◌}
 use native.Mathlib.Omega.{arith}
-use lib.IntN.{ℤ}
+use lib.ListN.{get_or}
 use lib.Ieee.{Float}
-use Rattle.phonon.specs.declared.Anchoring.{Anchoring}
-use Rattle.phonon.specs.Sets.{Legs, Forces}
+use Rattle.phonon.specs.declared.Legs.{Legs}
+use Rattle.phonon.specs.Sets.{Tables}
 use Rattle.phonon.specs.Interaction.{leg}
-use Rattle.phonon.specs.RealToReciprocal.{phase_factors, pre_factor_entry, pre_factors, reciprocal_from}
+use Rattle.phonon.specs.RealToReciprocal.{phase_factors, pre_factor_entry, pre_factors, reciprocal_from, reciprocal}
 use Rattle.planes.specs.Split.{WroteSplit}
 use Rattle.planes.specs.Region.{SameOutside}
 use Rattle.planes.specs.Layout.{numbers_in, constants_in}
 use Rattle.planes.proofs.RegionLaws.{outside_then, outside_wider, outside_split}
 use Rattle.planes.proofs.WorkLaws.{numbers_below, numbers_wrote}
 use Rattle.planes.proofs.Products.{row_le}
-use Rattle.real_to_reciprocal.specs.Stored.{region_end}
-use Rattle.real_to_normal.specs.Work.{factors_at, pre_at, constants_at, scratch_at, picked, reciprocal_of}
-
--- the third of three, where it is neither the first nor the second
-pub leg_last : {A : Type 0} (s : Legs A) (x : ℕ) → (x ≡ 0 → ⊥) → (x ≡ 1 → ⊥) → s.leg2 ≡ leg s x
-leg_last s zero p q = absurd (p refl)
-leg_last s (suc zero) p q = absurd (q refl)
-leg_last s (suc (suc x)) p q = refl
+use Rattle.real_to_reciprocal.specs.Stored.{region_end, FactorsBelow}
+use Rattle.real_to_normal.specs.Work.{columns_at, factors_at, pre_at, constants_at, scratch_at, places, Order, Factored, picked, reciprocal_of}
 
 -- where leg x's numbers begin
-pub at_first : (b m x : ℕ) → x ≡ 0 → b ≡ b + x * m
-at_first b m x e = rw e (omega arith)
+place_of : (base size x : ℕ) → x < 3 → leg (places base size) x ≡ base + x * size
+place_of base size zero h = omega arith
+place_of base size (suc zero) h = omega arith
+place_of base size (suc (suc zero)) h = refl
+place_of base size (suc (suc (suc x))) h = absurd (omega arith)
 
-pub at_second : (b m x : ℕ) → x ≡ 1 → b + m ≡ b + x * m
-at_second b m x e = rw e (omega arith)
+pub placed : (base size : ℕ) {s : Legs ℕ} → s ≡ places base size → (x a : ℕ) → x < 3 → a ≡ leg s x → a ≡ base + x * size
+placed base size e x a h p = p ∙ ap (λ d. leg d x) e ∙ place_of base size x h
 
-pub at_third : (b m x : ℕ) → x < 3 → (x ≡ 0 → ⊥) → (x ≡ 1 → ⊥) → b + 2 * m ≡ b + x * m
-at_third b m zero h p q = absurd (p refl)
-at_third b m (suc zero) h p q = absurd (q refl)
-at_third b m (suc (suc zero)) h p q = refl
-at_third b m (suc (suc (suc x))) h p q = absurd (omega arith)
+module _ (t : Tables) (order : List ℕ) (o : Order order) where
+  abbrev P : ℕ
+  P = t.measures.atoms
 
-module _ (P S : ℕ) (a : Anchoring) (c : Forces) (vectors : List Float) (multiplicity : List ℤ) (q : Legs (List Float)) (x0 x1 x2 : ℕ) (p0 : x0 < 3) (p1 : x1 < 3) (p2 : x2 < 3)
-    {l l₁ l₂ : List Float} {q0 q1 q2 : List Float} (e0 : q0 ≡ leg q x0) (e1 : q1 ≡ leg q x1) (e2 : q2 ≡ leg q x2)
-    (f : (x : ℕ) → x < 3 → numbers_in l (factors_at P S x) (P * S) (P * S) ≡ phase_factors P S vectors multiplicity (leg q x))
-    (w : WroteSplit l l₁ (pre_at P S) P P (pre_factor_entry P vectors multiplicity c.p2s (record { leg0 = q0; leg1 = q1; leg2 = q2 })))
-    {g0 g1 g2 : ℕ} (h0 : g0 ≡ factors_at P S x0) (h1 : g1 ≡ factors_at P S x1) (h2 : g2 ≡ factors_at P S x2)
-    (r : constants_in l₂ (constants_at P S) P ≡ reciprocal_from P S a c (numbers_in l₁ (pre_at P S) P P)
-    (record { leg0 = numbers_in l₁ g0 (P * S) (P * S); leg1 = numbers_in l₁ g1 (P * S) (P * S); leg2 = numbers_in l₁ g2 (P * S) (P * S) }))
-    (k : SameOutside l₁ l₂ (constants_at P S) (region_end (constants_at P S) P)) where
-  kept₁ : SameOutside l l₁ (pre_at P S) (constants_at P S)
-  kept₁ = outside_split (pre_at P S) (constants_at P S) (omega arith) (omega arith) refl w
+  abbrev S : ℕ
+  S = t.measures.supercell
 
-  pre_is : numbers_in l₁ (pre_at P S) P P ≡ pre_factors P vectors multiplicity c.p2s (picked q x0 x1 x2)
-  unfolding pre_factors
-  pre_is =
-      numbers_wrote w ∙ (λ i. pre_factors P vectors multiplicity c.p2s (record { leg0 = e0 i; leg1 = e1 i; leg2 = e2 i }))
+  -- the legs in this order
+  abbrev legs : {A : Type 0} → Legs A → Legs A
+  legs s = picked s (get_or order 0 0) (get_or order 1 0) (get_or order 2 0)
 
-  factors_are : (x g : ℕ) → x < 3 → g ≡ factors_at P S x → numbers_in l₁ g (P * S) (P * S) ≡ phase_factors P S vectors multiplicity (leg q x)
-  factors_are x g p e =
-      ap (λ o. numbers_in l₁ o (P * S) (P * S)) e ∙ numbers_below kept₁ (factors_at P S x) (P * S) (P * S) (omega (arith, row_le (2 * (P * S)) p)) ∙ f x p
+  -- where their factors begin
+  pub factors_below : {s f : Legs ℕ} → s ≡ places (columns_at P 3) (2 * (P * S)) → f ≡ legs s → FactorsBelow (constants_at P S) (pre_at P S) f P S
+  factors_below {s} {f} es ef =
+      record {
+        pre = omega arith;
+        leg0 = below (get_or order 0 0) f.leg0 o.leg0 (ap (λ d. d.leg0) ef);
+        leg1 = below (get_or order 1 0) f.leg1 o.leg1 (ap (λ d. d.leg1) ef);
+        leg2 = below (get_or order 2 0) f.leg2 o.leg2 (ap (λ d. d.leg2) ef);
+      }
+    where
+      below : (x a : ℕ) → x < 3 → a ≡ leg s x → a + 2 * (P * S) ≤ constants_at P S
+      below x a p e = omega (arith, placed (columns_at P 3) (2 * (P * S)) es x a p e, row_le (2 * (P * S)) p)
 
-  pub order_is : constants_in l₂ (constants_at P S) P ≡ reciprocal_of P S a c vectors multiplicity (picked q x0 x1 x2)
-  order_is =
-      let u = factors_are x0 g0 p0 h0 in
-      let v = factors_are x1 g1 p1 h1 in
-      let z = factors_are x2 g2 p2 h2 in
-      r ∙ (λ i. reciprocal_from P S a c (pre_is i) (record { leg0 = u i; leg1 = v i; leg2 = z i }))
+  -- where their columns end
+  pub columns_end : {s e : Legs ℕ} → s ≡ places P (2 * (3 * P * (3 * P))) → e ≡ legs s
+      → (e.leg0 + 2 * (3 * P * (3 * P)) ≤ scratch_at P S) × (e.leg1 + 2 * (3 * P * (3 * P)) ≤ scratch_at P S) × (e.leg2 + 2 * (3 * P * (3 * P)) ≤ scratch_at P S)
+  columns_end {s} {e} es h =
+      (below (get_or order 0 0) e.leg0 o.leg0 (ap (λ d. d.leg0) h), below (get_or order 1 0) e.leg1 o.leg1 (ap (λ d. d.leg1) h), below (get_or order 2 0) e.leg2 o.leg2 (ap (λ d. d.leg2) h))
+    where
+      below : (x a : ℕ) → x < 3 → a ≡ leg s x → a + 2 * (3 * P * (3 * P)) ≤ scratch_at P S
+      below x a p h = omega (arith, placed P (2 * (3 * P * (3 * P))) es x a p h, row_le (2 * (3 * P * (3 * P))) p)
 
-  pub order_outside : SameOutside l l₂ (pre_at P S) (scratch_at P S)
-  order_outside = outside_then (outside_wider (pre_at P S) (scratch_at P S) (omega arith) (omega arith) kept₁) (outside_wider (pre_at P S) (scratch_at P S) (omega arith) (omega arith) k)
+  module _ (q : Legs (List Float)) {l l₁ l₂ : List Float} {p : Legs (List Float)} {s f : Legs ℕ} (ep : p ≡ legs q) (es : s ≡ places (columns_at P 3) (2 * (P * S))) (ef : f ≡ legs s)
+      (h : Factored l t q)
+      (w : WroteSplit l l₁ (pre_at P S) P P (pre_factor_entry P t.crystal.vectors t.crystal.multiplicity t.crystal.forces.p2s p))
+      (r : constants_in l₂ (constants_at P S) P ≡ reciprocal_from P S t.settings.anchoring t.crystal.forces (numbers_in l₁ (pre_at P S) P P)
+      (record { leg0 = numbers_in l₁ f.leg0 (P * S) (P * S); leg1 = numbers_in l₁ f.leg1 (P * S) (P * S); leg2 = numbers_in l₁ f.leg2 (P * S) (P * S) }))
+      (k : SameOutside l₁ l₂ (constants_at P S) (region_end (constants_at P S) P)) where
+    kept₁ : SameOutside l l₁ (pre_at P S) (constants_at P S)
+    kept₁ = outside_split (pre_at P S) (constants_at P S) (omega arith) (omega arith) refl w
+
+    pre_is : numbers_in l₁ (pre_at P S) P P ≡ pre_factors P t.crystal.vectors t.crystal.multiplicity t.crystal.forces.p2s (legs q)
+    unfolding pre_factors
+    pre_is = numbers_wrote w ∙ ap (pre_factors P t.crystal.vectors t.crystal.multiplicity t.crystal.forces.p2s) ep
+
+    factors_are : (x g : ℕ) → x < 3 → g ≡ leg s x → numbers_in l₁ g (P * S) (P * S) ≡ phase_factors P S t.crystal.vectors t.crystal.multiplicity (leg q x)
+    factors_are x g p e =
+        ap (λ a. numbers_in l₁ a (P * S) (P * S)) (placed (columns_at P 3) (2 * (P * S)) es x g p e) ∙ numbers_below kept₁ (factors_at P S x) (P * S) (P * S) (omega (arith, row_le (2 * (P * S)) p)) ∙ h.factors x p
+
+    pub order_is : constants_in l₂ (constants_at P S) P ≡ reciprocal_of t (legs q)
+    unfolding reciprocal
+    order_is =
+        let u = factors_are (get_or order 0 0) f.leg0 o.leg0 (ap (λ d. d.leg0) ef) in
+        let v = factors_are (get_or order 1 0) f.leg1 o.leg1 (ap (λ d. d.leg1) ef) in
+        let z = factors_are (get_or order 2 0) f.leg2 o.leg2 (ap (λ d. d.leg2) ef) in
+        r ∙ (λ i. reciprocal_from P S t.settings.anchoring t.crystal.forces (pre_is i) (record { leg0 = u i; leg1 = v i; leg2 = z i }))
+
+    pub order_outside : SameOutside l l₂ (pre_at P S) (scratch_at P S)
+    order_outside = outside_then (outside_wider (pre_at P S) (scratch_at P S) (omega arith) (omega arith) kept₁) (outside_wider (pre_at P S) (scratch_at P S) (omega arith) (omega arith) k)

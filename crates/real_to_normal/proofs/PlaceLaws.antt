@@ -27,13 +27,6 @@ pub third : 2 < 3
 third = omega arith
 
 module _ (P S : ℕ) where
-  -- a leg's columns and factors
-  pub columns_end : {x e : ℕ} → x < 3 → e ≡ columns_at P x → e + 2 * (3 * P * (3 * P)) ≤ scratch_at P S
-  columns_end p e = omega (arith, row_le (2 * (3 * P * (3 * P))) p)
-
-  pub factors_end : {x g : ℕ} → x < 3 → g ≡ factors_at P S x → g + 2 * (P * S) ≤ constants_at P S
-  factors_end p e = omega (arith, row_le (2 * (P * S)) p)
-
   pub columns_pre : columns_at P 3 ≤ pre_at P S
   columns_pre = omega arith
 

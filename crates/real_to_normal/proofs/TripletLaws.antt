@@ -7,14 +7,14 @@ use native.Mathlib.Omega.{arith}
 use lib.IntN.{ℤ, pos}
 use lib.ListN.{length, get_or, take, drop, replicate}
 use lib.Ieee.{Float, nan}
-use Rattle.phonon.specs.declared.Anchoring.{Anchoring}
 use Rattle.phonon.specs.declared.Measures.{Measures}
 use Rattle.phonon.specs.declared.Symmetry.{Symmetry}
 use Rattle.phonon.specs.declared.Symmetry.TheVariants.{Off, Symmetrized}
 use Rattle.phonon.specs.Number.{◌⊕◌, ◌⊘◌, f0, f6, at, flagged, fold, table}
-use Rattle.phonon.specs.Sets.{Forces, Triplet, slots, Legs}
+use Rattle.phonon.specs.declared.Legs.{Legs}
+use Rattle.phonon.specs.Sets.{Tables, Triplet, slots}
 use Rattle.phonon.specs.Tests.{all_within}
-use Rattle.phonon.specs.RealToReciprocal.{q_at, reciprocal}
+use Rattle.phonon.specs.RealToReciprocal.{q_at}
 use Rattle.phonon.specs.ReciprocalToNormal.{inverse_roots, Phonon, phonon_at, strength}
 use Rattle.phonon.specs.Interaction.{orders, leg, exchanged, leg_q, point, order_count, reciprocals, sixth, value, flagged_value, phonons_at, strength_with, slot_with, strengths_with, strengths}
 use Rattle.phonon.specs.Limits.{work_length}
@@ -25,47 +25,47 @@ use Rattle.planes.proofs.WorkLaws.{drop_outside}
 use Rattle.reciprocal_to_normal.specs.Slots.{b_of, j_of, k_of}
 use Rattle.reciprocal_to_normal.proofs.SlotLaws.{slot_of}
 use Rattle.real_to_normal.proofs.AcceptedLaws.{end_fits}
-use Rattle.real_to_normal.specs.Work.{end_at, Prepared, picked, reciprocal_of, leg_in, slot_in, sixth_of, slot_phonons, slot_value}
+use Rattle.real_to_normal.specs.Work.{work_end, slot_count, Prepared, reciprocal_of, leg_in, slot_in, sixth_of, slot_phonons, slot_value}
 use Rattle.real_to_normal.proofs.SlotLaws.{slot_bands}
 
 -- ---- what the legs that were prepared hold are the definition's phonons
 
-module _ (P S : ℕ) (masses eig vectors frequencies : List Float) (multiplicity : List ℤ) (g : Legs ℕ) (q : Legs (List Float)) {l : List Float}
-    (h : Prepared l P S masses eig vectors multiplicity g q) where
-  leg_phonon : (x n : ℕ) → x < 3 → n < 3 * P → leg_in l P frequencies g x n ≡ phonon_at (3 * P) (inverse_roots P masses) (record { frequencies = frequencies; eigenvectors = eig }) (leg g x) n
+module _ (t : Tables) (g : Legs ℕ) (q : Legs (List Float)) {l : List Float} (h : Prepared l t g q) where
+  abbrev P : ℕ
+  P = t.measures.atoms
+
+  leg_phonon : (x n : ℕ) → x < 3 → n < 3 * P → leg_in l P t.phonons.frequencies g x n ≡ phonon_at (3 * P) (inverse_roots P t.crystal.masses) t.phonons (leg g x) n
   unfolding phonon_at
   leg_phonon x n p k =
-      let f : at (take (3 * P) (drop (leg g x * (3 * P)) frequencies)) n ≡ at frequencies (leg g x * (3 * P) + n) =
-      part_at frequencies (leg g x * (3 * P)) (3 * P) n nan k in
+      let f : at (take (3 * P) (drop (leg g x * (3 * P)) t.phonons.frequencies)) n ≡ at t.phonons.frequencies (leg g x * (3 * P) + n) =
+      part_at t.phonons.frequencies (leg g x * (3 * P)) (3 * P) n nan k in
       λ i. record { frequency = f i; column = h.columns x n p k i }
 
-  pub slot_phonons_lem : (bands : List ℤ) (m : ℕ) → 1 ≤ P → all_within (pos 0) (pos (3 * P - 1)) bands ≡ true → m < length bands * (3 * P) * (3 * P)
-      → slot_in l P frequencies g bands 0 1 2 m ≡ slot_phonons P (inverse_roots P masses) (record { frequencies = frequencies; eigenvectors = eig }) g bands m
-  slot_phonons_lem bands m p w k =
-      let b = slot_bands P bands m p w k in
-      let u = leg_phonon 0 _ (omega arith) (b 0) in
-      let v = leg_phonon 1 _ (omega arith) (b 1) in
-      let z = leg_phonon 2 _ (omega arith) (b 2) in
-      λ i. record { leg0 = u i; leg1 = v i; leg2 = z i }
-
   -- both ways of working leave the slots' values
-  module _ (a : Anchoring) (c : Forces) (bands : List ℤ) (cutoff : Float) (flags : List ℕ) (before : List Float) (p : 1 ≤ P) (w : all_within (pos 0) (pos (3 * P - 1)) bands ≡ true) where
+  module _ (flags : List ℕ) (before : List Float) (p : 1 ≤ P) (w : all_within (pos 0) (pos (3 * P - 1)) t.bands ≡ true) where
+    slot_phonons_lem : (m : ℕ) → m < slot_count t → slot_in l P t.phonons.frequencies g t.bands 0 1 2 m ≡ slot_phonons P (inverse_roots P t.crystal.masses) t.phonons g t.bands m
+    slot_phonons_lem m k =
+        let b = slot_bands P t.bands m p w k in
+        let u = leg_phonon 0 _ (omega arith) (b 0) in
+        let v = leg_phonon 1 _ (omega arith) (b 1) in
+        let z = leg_phonon 2 _ (omega arith) (b 2) in
+        λ i. record { leg0 = u i; leg1 = v i; leg2 = z i }
+
     abbrev valued : Symmetry → ℕ → Float
-    valued y m = slot_value y (reciprocal_of P S a c vectors multiplicity) P q (slot_phonons P (inverse_roots P masses) (record { frequencies = frequencies; eigenvectors = eig }) g bands m) cutoff flags (at before m) m
+    valued y m = slot_value y (reciprocal_of t) P q (slot_phonons P (inverse_roots P t.crystal.masses) t.phonons g t.bands m) t.settings.cutoff flags (at before m) m
 
-    pub off_values : {out : List Float} (y : Symmetry) → y ≡ Off → out ≡ table (length bands * (3 * P) * (3 * P)) (λ m. cond (flagged flags m) (at before m)
-        (strength P (reciprocal_of P S a c vectors multiplicity (picked q 0 1 2)) (slot_in l P frequencies g bands 0 1 2 m) cutoff)) → out ≡ table (length bands * (3 * P) * (3 * P)) (valued y)
+    pub off_values : {out : List Float} (y : Symmetry) → y ≡ Off → out ≡ table (slot_count t) (λ m. cond (flagged flags m) (at before m)
+        (strength P (reciprocal_of t q) (slot_in l P t.phonons.frequencies g t.bands 0 1 2 m) t.settings.cutoff)) → out ≡ table (slot_count t) (valued y)
     unfolding slot_value
-    off_values y e r = r ∙ table_ext (length bands * (3 * P) * (3 * P)) _ (valued Off) (λ m k.
-        ap (λ s. cond (flagged flags m) (at before m) (strength P (reciprocal_of P S a c vectors multiplicity q) s cutoff)) (slot_phonons_lem bands m p w k))
-        ∙ ap (λ z. table (length bands * (3 * P) * (3 * P)) (valued z)) (sym e)
+    off_values y e r = r ∙ table_ext (slot_count t) _ (valued Off) (λ m k. ap (λ s. cond (flagged flags m) (at before m) (strength P (reciprocal_of t q) s t.settings.cutoff)) (slot_phonons_lem m k))
+        ∙ ap (λ z. table (slot_count t) (valued z)) (sym e)
 
-    pub six_values : {out : List Float} (y : Symmetry) → y ≡ Symmetrized → out ≡ table (length bands * (3 * P) * (3 * P)) (λ m. cond (flagged flags m) f0 (fold 6 f0 (sixth_of P S a c vectors multiplicity q l frequencies g bands cutoff m)))
-        → out ≡ table (length bands * (3 * P) * (3 * P)) (valued y)
+    pub six_values : {out : List Float} (y : Symmetry) → y ≡ Symmetrized → out ≡ table (slot_count t) (λ m. cond (flagged flags m) f0 (fold 6 f0 (sixth_of t q l g m)))
+        → out ≡ table (slot_count t) (valued y)
     unfolding slot_value sixth_of
-    six_values y e r = r ∙ table_ext (length bands * (3 * P) * (3 * P)) _ (valued Symmetrized) (λ m k.
-        ap (λ s. cond (flagged flags m) f0 (fold 6 f0 (λ o sum. sum ⊕ strength P (reciprocal_of P S a c vectors multiplicity (exchanged o q)) (exchanged o s) cutoff ⊘ f6))) (slot_phonons_lem bands m p w k))
-        ∙ ap (λ z. table (length bands * (3 * P) * (3 * P)) (valued z)) (sym e)
+    six_values y e r = r ∙ table_ext (slot_count t) _ (valued Symmetrized) (λ m k.
+        ap (λ s. cond (flagged flags m) f0 (fold 6 f0 (λ o sum. sum ⊕ strength P (reciprocal_of t (exchanged o q)) (exchanged o s) t.settings.cutoff ⊘ f6))) (slot_phonons_lem m k))
+        ∙ ap (λ z. table (slot_count t) (valued z)) (sym e)
 
 -- ---- the definition's strengths
 
@@ -74,10 +74,10 @@ module _ (t : Triplet) (before : List Float) where
   m = t.tables.measures.atoms
 
   abbrev constants_at : Legs (List Float) → List Float
-  constants_at = reciprocal_of m t.tables.measures.supercell t.tables.settings.anchoring t.tables.crystal.forces t.tables.crystal.vectors t.tables.crystal.multiplicity
+  constants_at = reciprocal_of t.tables
 
   order_constants : (o : ℕ) → o < order_count t.tables.symmetry → get_or (reciprocals t) o [] ≡ constants_at (exchanged o (leg_q t))
-  unfolding reciprocals reciprocal
+  unfolding reciprocals
   order_constants o h = table_at (order_count t.tables.symmetry) o _ [] h
 
   -- the value of one slot that is not flagged
@@ -124,21 +124,20 @@ module _ (t : Triplet) (before : List Float) where
       ∙ table_ext (slots t.tables.measures) _ _ (λ n h. slot_value_lem n)
 
   -- the same, with the legs' points and q as the work has them
-  pub strengths_from : {out : List Float} {g0 g1 g2 : ℕ} {q0 q1 q2 : List Float} → g0 ≡ point t 0 → g1 ≡ point t 1 → g2 ≡ point t 2
-      → q0 ≡ q_at t.tables.grid g0 → q1 ≡ q_at t.tables.grid g1 → q2 ≡ q_at t.tables.grid g2 → length t.tables.bands ≡ t.tables.measures.first
-      → out ≡ table (length t.tables.bands * (3 * m) * (3 * m)) (λ n. slot_value t.tables.symmetry constants_at m (record { leg0 = q0; leg1 = q1; leg2 = q2 })
-      (slot_phonons m inverse t.tables.phonons (record { leg0 = g0; leg1 = g1; leg2 = g2 }) t.tables.bands n) t.tables.settings.cutoff t.flags (at before n) n)
+  pub strengths_from : {out : List Float} {g : Legs ℕ} {q : Legs (List Float)} → g.leg0 ≡ point t 0 → g.leg1 ≡ point t 1 → g.leg2 ≡ point t 2
+      → q.leg0 ≡ q_at t.tables.grid g.leg0 → q.leg1 ≡ q_at t.tables.grid g.leg1 → q.leg2 ≡ q_at t.tables.grid g.leg2 → length t.tables.bands ≡ t.tables.measures.first
+      → out ≡ table (slot_count t.tables) (λ n. slot_value t.tables.symmetry constants_at m q (slot_phonons m inverse t.tables.phonons g t.tables.bands n) t.tables.settings.cutoff t.flags (at before n) n)
       → out ≡ strengths t before
   strengths_from e0 e1 e2 h0 h1 h2 e r =
       let u0 = h0 ∙ ap (q_at t.tables.grid) e0 in
       let u1 = h1 ∙ ap (q_at t.tables.grid) e1 in
       let u2 = h2 ∙ ap (q_at t.tables.grid) e2 in
-      strengths_are e (r ∙ ap₂ (λ (x : Legs ℕ) (y : Legs (List Float)). table (length t.tables.bands * (3 * m) * (3 * m)) (λ n. slot_value t.tables.symmetry constants_at m y (slot_phonons m inverse t.tables.phonons x t.tables.bands n) t.tables.settings.cutoff t.flags (at before n) n))
+      strengths_are e (r ∙ ap₂ (λ (x : Legs ℕ) (y : Legs (List Float)). table (slot_count t.tables) (λ n. slot_value t.tables.symmetry constants_at m y (slot_phonons m inverse t.tables.phonons x t.tables.bands n) t.tables.settings.cutoff t.flags (at before n) n))
       (λ i. record { leg0 = e0 i; leg1 = e1 i; leg2 = e2 i }) (λ i. record { leg0 = u0 i; leg1 = u1 i; leg2 = u2 i }))
 
 -- ---- the work buffer
 
-pub cleared_is : {w w₁ out : List Float} {n : ℕ} (m : Measures) → 1 ≤ m.atoms → SameOutside w w₁ 0 (end_at m.atoms m.supercell) → n ≡ work_length m.atoms m.supercell → out ≡ replicate n f0 ++ drop n w₁ → out ≡ cleared m w
+pub cleared_is : {w w₁ out : List Float} {n : ℕ} (m : Measures) → 1 ≤ m.atoms → SameOutside w w₁ 0 (work_end m) → n ≡ work_length m.atoms m.supercell → out ≡ replicate n f0 ++ drop n w₁ → out ≡ cleared m w
 unfolding cleared
 cleared_is {w} {n = n} m p k e r =
     r ∙ ap (λ (d : List Float). replicate n f0 ++ d) (drop_outside k n (omega (arith, end_fits m.atoms m.supercell p, e))) ∙ ap (λ (x : ℕ). replicate x f0 ++ drop x w) e

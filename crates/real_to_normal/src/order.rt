@@ -1,96 +1,73 @@
-// One leg order of one triplet: the force constants in reciprocal space.
-ghost use Rattle.std.specs.Prelude.{◌≡◌, ℕ, ◌+◌, ◌*◌, ◌^◌, ◌<◌, ◌≤◌, length};
-ghost use Rattle.phonon.specs.Sets.{forces_of};
-ghost use Rattle.phonon.specs.Interaction.{leg};
-ghost use Rattle.phonon.specs.RealToReciprocal.{phase_factors};
+// One leg order of one triplet: the legs picked in this order, and the force constants in reciprocal space.
+ghost use Rattle.std.specs.Prelude.{◌≡◌, ◌+◌, ◌*◌, ◌^◌, ◌<◌, ◌≤◌, length, get_or};
+ghost use Rattle.phonon.specs.Handed.{tables_of};
+ghost use Rattle.phonon.specs.Sets.{part};
 ghost use Rattle.planes.specs.Region.{SameOutside};
-ghost use Rattle.planes.specs.Layout.{numbers_in, constants_in};
-ghost use Rattle.real_to_reciprocal.specs.Shape.{Anchored, Shaped};
-ghost use Rattle.real_to_normal.specs.Work.{factors_at, pre_at, constants_at, scratch_at, picked, reciprocal_of};
+ghost use Rattle.planes.specs.Layout.{constants_in};
+ghost use Rattle.real_to_normal.specs.Work.{pre_at, constants_at, scratch_at, places, Shapes, Frequencies, Order, Factored, picked, reciprocal_of};
 
-use phonon::{Anchoring, Form};
+use phonon::{Legs, Tables};
+use planes::part_of;
 use real_to_reciprocal::phases::pre_phase_factors;
 use real_to_reciprocal::real_to_reciprocal;
 
-// The q of leg x.
-fn pick_q(q0: &[f64; 3], q1: &[f64; 3], q2: &[f64; 3], x: usize) -> [f64; 3]
-    ensures { result ≡ leg (record { leg0 = q0.now; leg1 = q1.now; leg2 = q2.now }) x }
+// The legs in this order.
+pub fn picked<T: Copy>(legs: &Legs<T>, order: [usize; 3]) -> Legs<T>
+    ensures { result ≡ picked legs.now (get_or order 0 0) (get_or order 1 0) (get_or order 2 0) }
 {
-    if x == 0 {
-        return *q0;
+    Legs {
+        leg0: legs.leg(order[0]),
+        leg1: legs.leg(order[1]),
+        leg2: legs.leg(order[2]),
     }
-    if x == 1 {
-        return *q1;
-    }
-    *q2
 }
 
-// Where leg x's numbers begin, of `size` numbers for each leg from `base` on.
-pub fn leg_at(base: usize, size: usize, x: usize) -> usize
-    requires { (x < 3) × (base + 3 * size < 2 ^ 64) }
-    ensures { result ≡ base + x * size }
+// Where each leg's numbers begin, of `size` numbers a leg from `base` on.
+pub fn places(base: usize, size: usize) -> Legs<usize>
+    requires { base + 3 * size < 2 ^ 64 }
+    ensures { result ≡ places base size }
 {
-    if x == 0 {
-        return base;
+    Legs {
+        leg0: base,
+        leg1: base + size,
+        leg2: base + 2 * size,
     }
-    if x == 1 {
-        return base + size;
-    }
-    base + 2 * size
 }
 
-// The force constants in reciprocal space, with the legs in the order x0, x1, x2.
-pub fn order_constants(
-    w: &mut [f64],
-    q0: &[f64; 3],
-    q1: &[f64; 3],
-    q2: &[f64; 3],
-    x0: usize,
-    x1: usize,
-    x2: usize,
-    form: Form,
-    anchoring: Anchoring,
-    vectors: &[f64],
-    multiplicity: &[i64],
-    p2s: &[i64],
-    s2p: &[i64],
-    shortest: &[u8],
-    nonzero: &[u8],
-    constants: &[f64],
-    np: usize,
-    ns: usize,
-)
-    requires sizes { (np ≤ 256)
-        × (ns ≤ 256)
-        × (x0 < 3)
-        × (x1 < 3)
-        × (x2 < 3)
-        × (scratch_at np ns ≤ length w.old)
-        × Anchored vectors.now multiplicity.now p2s.now np
-        × Shaped np ns (forces_of form p2s.now s2p.now shortest.now nonzero.now constants.now) }
-    requires factors { (x : ℕ) → x < 3
-        → numbers_in w.old (factors_at np ns x) (np * ns) (np * ns)
-        ≡ phase_factors np ns vectors.now multiplicity.now (leg (record { leg0 = q0.now; leg1 = q1.now; leg2 = q2.now }) x) }
-    ensures { (constants_in w.new (constants_at np ns) np
-        ≡ reciprocal_of np ns anchoring
-        (forces_of form p2s.now s2p.now shortest.now nonzero.now constants.now)
-        vectors.now multiplicity.now
-        (picked (record { leg0 = q0.now; leg1 = q1.now; leg2 = q2.now }) x0 x1 x2))
-        × SameOutside w.old w.new (pre_at np ns) (scratch_at np ns) }
+// The frequencies of nb bands at each leg's grid point: the caller's own stretches, uncopied.
+pub fn frequencies_of(frequencies: &[f64], g: Legs<usize>, nb: usize) -> Legs<&[f64]>
+    requires { Frequencies nb frequencies.now g }
+    ensures { ((result.leg0.now ≡ part nb g.leg0 frequencies.now) × (length result.leg0.now ≡ nb))
+        × ((result.leg1.now ≡ part nb g.leg1 frequencies.now) × (length result.leg1.now ≡ nb))
+        × ((result.leg2.now ≡ part nb g.leg2 frequencies.now) × (length result.leg2.now ≡ nb)) }
 {
+    Legs {
+        leg0: part_of(frequencies, g.leg0, nb),
+        leg1: part_of(frequencies, g.leg1, nb),
+        leg2: part_of(frequencies, g.leg2, nb),
+    }
+}
+
+// The force constants in reciprocal space, with the legs in this order.
+pub fn order_constants(w: &mut [f64], tables: &Tables<'_>, q: &Legs<[f64; 3]>, order: [usize; 3])
+    requires sizes { Shapes (tables_of tables.now)
+        × Order order
+        × (scratch_at tables.now.measures.atoms tables.now.measures.supercell ≤ length w.old) }
+    requires factors { Factored w.old (tables_of tables.now) q.now }
+    ensures { (constants_in w.new (constants_at tables.now.measures.atoms tables.now.measures.supercell) tables.now.measures.atoms
+        ≡ reciprocal_of (tables_of tables.now) (picked q.now (get_or order 0 0) (get_or order 1 0) (get_or order 2 0)))
+        × SameOutside w.old w.new (pre_at tables.now.measures.atoms tables.now.measures.supercell)
+        (scratch_at tables.now.measures.atoms tables.now.measures.supercell) }
+{
+    let np = tables.measures.atoms;
+    let ns = tables.measures.supercell;
     let d = 3 * np * (3 * np);
     let n = 2 * (np * ns);
     let f0 = np + 3 * (2 * d);
     let po = f0 + 3 * n;
     let fo = po + 2 * np;
-    let g0 = leg_at(f0, n, x0);
-    let g1 = leg_at(f0, n, x1);
-    let g2 = leg_at(f0, n, x2);
-    let a = pick_q(q0, q1, q2, x0);
-    let b = pick_q(q0, q1, q2, x1);
-    let c = pick_q(q0, q1, q2, x2);
-    pre_phase_factors(w, po, &a, &b, &c, vectors, multiplicity, p2s, np);
-    real_to_reciprocal(
-        w, fo, po, g0, g1, g2, form, anchoring, p2s, s2p, shortest, nonzero, constants, np, ns,
-    );
+    let f = picked(&places(f0, n), order);
+    let p = picked(q, order);
+    pre_phase_factors(w, po, &p, &tables.crystal, np);
+    real_to_reciprocal(w, fo, po, f, tables.settings.anchoring, &tables.crystal.forces, np, ns);
 }

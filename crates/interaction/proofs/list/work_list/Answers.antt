@@ -1,73 +1,63 @@
 -- After t turns the first t parts of the strengths are worked, the rest is as found, and the work buffer is cleared if t is not 0.
 use native.Mathlib.Omega.{arith}
-use mathlib.Core.Path.{◌≡◌, refl}
-use Rattle.interaction.proofs.ListLaws.{worked_none, strengths_fit, flags_fit, points_fit, share_accepted, worked_next, worked_all}
+use mathlib.Core.Path.{◌≡◌, ap}
+use Rattle.phonon.specs.Sets.{slots}
+use Rattle.phonon.specs.Limits.{sizes_of}
+use Rattle.checks.proofs.MeasureLaws.{small}
+use Rattle.interaction.proofs.ListLaws.{list_facts, worked_none, strengths_fit, flags_fit, points_fit, share_accepted, worked_next, worked_all}
 use Rattle.interaction.proofs.list.work_list.Goals as goal
+use Rattle.interaction.proofs.list.work_list.Goals.{After-sizes_of-slots}
+
+-- the slots of each triplet
+each : (c : After-sizes_of-slots) → c.sizes_of-slots.result.slots ≡ slots c.args.tables.now.measures
+unfolding sizes_of
+each c = ap (λ z. z.slots) c.sizes_of-slots.ensures
+
+pub sizes_of-slots-requires : goal.sizes_of-slots-requires
+sizes_of-slots-requires c = small _ (list_facts _ c.requires).measures
 
 pub loop-t-init : goal.loop-t-init
-loop-t-init g c = (omega arith, rw c.requires.1.0 (worked_none _))
+loop-t-init c = (omega arith, worked_none _)
 
 pub overflow_mul-from : goal.overflow_mul-from
-overflow_mul-from g c =
-    let h = c.requires in
-    let e = rw h.1.0 at h.1.1 in
-    let k = rw h.1.0 at c.loop-t.invariant.1 in
-    omega (arith, strengths_fit _ e c.args.slots h.0 c.loop-t.t c.loop-t-test.true k, k.size)
+overflow_mul-from c =
+    let k = c.loop-t.invariant.1 in
+    omega (arith, strengths_fit _ c.requires c.sizes_of-slots.result.slots (each (goal.at.overflow_mul-from c).After-sizes_of-slots) c.loop-t.t c.loop-t-test.true k, k.size)
 
 pub overflow_add-to : goal.overflow_add-to
-overflow_add-to g c =
-    let h = c.requires in
-    let e = rw h.1.0 at h.1.1 in
-    let k = rw h.1.0 at c.loop-t.invariant.1 in
-    omega (arith, strengths_fit _ e c.args.slots h.0 c.loop-t.t c.loop-t-test.true k, k.size)
+overflow_add-to c =
+    let k = c.loop-t.invariant.1 in
+    omega (arith, strengths_fit _ c.requires c.sizes_of-slots.result.slots (each (goal.at.overflow_add-to c).After-sizes_of-slots) c.loop-t.t c.loop-t-test.true k, k.size)
 
-pub points_of-requires : goal.points_of-requires
-points_of-requires g c =
-    let h = c.requires in
-    let e = rw h.1.0 at h.1.1 in
-    omega (arith, points_fit _ e c.loop-t.t c.loop-t-test.true)
+pub overflow_mul-t : goal.overflow_mul-t
+overflow_mul-t c = omega (arith, points_fit _ c.requires c.loop-t.t c.loop-t-test.true)
+
+pub array_at-requires : goal.array_at-requires
+array_at-requires c = (omega arith, omega (arith, points_fit _ c.requires c.loop-t.t c.loop-t-test.true))
 
 pub slice_bounds-work_triplet-end : goal.slice_bounds-work_triplet-end
-slice_bounds-work_triplet-end g c =
-    let h = c.requires in
-    let e = rw h.1.0 at h.1.1 in
-    omega (arith, flags_fit _ e c.args.slots h.0 c.loop-t.t c.loop-t-test.true)
+slice_bounds-work_triplet-end c = omega (arith, flags_fit _ c.requires c.sizes_of-slots.result.slots (each (goal.at.slice_bounds-work_triplet-end c).After-sizes_of-slots) c.loop-t.t c.loop-t-test.true)
 
 pub offset_bounds-strengths-from : goal.offset_bounds-strengths-from
-offset_bounds-strengths-from g c =
-    let h = c.requires in
-    let e = rw h.1.0 at h.1.1 in
-    let k = rw h.1.0 at c.loop-t.invariant.1 in
-    omega (arith, strengths_fit _ e c.args.slots h.0 c.loop-t.t c.loop-t-test.true k, k.size)
+offset_bounds-strengths-from c =
+    let k = c.loop-t.invariant.1 in
+    omega (arith, strengths_fit _ c.requires c.sizes_of-slots.result.slots (each (goal.at.offset_bounds-strengths-from c).After-sizes_of-slots) c.loop-t.t c.loop-t-test.true k, k.size)
 
 pub slice_bounds-work_triplet-end-in-loop-t : goal.slice_bounds-work_triplet-end-in-loop-t
-slice_bounds-work_triplet-end-in-loop-t g c =
-    let h = c.requires in
-    let e = rw h.1.0 at h.1.1 in
-    let k = rw h.1.0 at c.loop-t.invariant.1 in
-    omega (arith, strengths_fit _ e c.args.slots h.0 c.loop-t.t c.loop-t-test.true k)
+slice_bounds-work_triplet-end-in-loop-t c =
+    let k = c.loop-t.invariant.1 in
+    omega (arith, strengths_fit _ c.requires c.sizes_of-slots.result.slots (each (goal.at.slice_bounds-work_triplet-end-in-loop-t c).After-sizes_of-slots) c.loop-t.t c.loop-t-test.true k)
 
 pub work_triplet-requires : goal.work_triplet-requires
-work_triplet-requires g c =
-    let h = c.requires in
-    let e = rw h.1.0 at h.1.1 in
-    let k = rw h.1.0 at c.loop-t.invariant.1 in
-    (refl, share_accepted _ e c.args.slots h.0 c.loop-t.t c.loop-t-test.true k c.points_of.ensures)
+work_triplet-requires c = share_accepted _ c.requires c.sizes_of-slots.result.slots (each (goal.at.work_triplet-requires c).After-sizes_of-slots) c.loop-t.t c.loop-t-test.true c.loop-t.invariant.1 c.array_at.ensures
 
 pub loop-t-preserved : goal.loop-t-preserved
-loop-t-preserved g c =
-    let h = c.requires in
-    let e = rw h.1.0 at h.1.1 in
-    let k = rw h.1.0 at c.loop-t.invariant.1 in
-    let r = c.work_triplet.ensures in (
-      omega (arith, c.loop-t-test.true),
-      rw h.1.0 (worked_next _ e c.args.slots h.0 c.loop-t.t c.loop-t-test.true k c.points_of.ensures c.work_triplet.auto.strengths r.0 r.1),
-    )
+loop-t-preserved c =
+    let r = c.work_triplet.ensures in
+    (omega (arith, c.loop-t-test.true), worked_next _ c.requires c.sizes_of-slots.result.slots (each (goal.at.loop-t-preserved c).After-sizes_of-slots) c.loop-t.t c.loop-t-test.true c.loop-t.invariant.1 c.array_at.ensures c.work_triplet.auto.strengths r.0 r.1)
 
 pub returns : goal.returns
-returns g c =
-    let h = c.requires in
-    let e = rw h.1.0 at h.1.1 in
-    let k = rw h.1.0 at c.loop-t.invariant.1 in
+returns c =
+    let k = c.loop-t.invariant.1 in
     let all : c.loop-t.t ≡ c.args.list = omega arith in
-    rw h.1.0 (worked_all _ e (rw all at k))
+    worked_all _ c.requires (rw all at k)

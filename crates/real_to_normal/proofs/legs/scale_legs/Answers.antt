@@ -12,6 +12,6 @@ returns c =
     let s₀ = c.scale_eigenvectors.ensures in
     let s₁ = c.scale_eigenvectors-2.ensures in
     let s₂ = c.scale_eigenvectors-3.ensures in (
-      legs_scaled a.np a.eigenvectors.now a.g0 a.g1 a.g2 room s₀.0 s₀.1 s₁.0 s₁.1 s₂.0 s₂.1,
-      legs_outside a.np a.eigenvectors.now a.g0 a.g1 a.g2 room s₀.0 s₀.1 s₁.0 s₁.1 s₂.0 s₂.1,
+      legs_scaled a.np a.eigenvectors.now a.g room s₀.0 s₀.1 s₁.0 s₁.1 s₂.0 s₂.1,
+      legs_outside a.np a.eigenvectors.now a.g room s₀.0 s₀.1 s₁.0 s₁.1 s₂.0 s₂.1,
     )

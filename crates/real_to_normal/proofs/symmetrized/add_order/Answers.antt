@@ -1,33 +1,40 @@
 -- The full listing of one order, and a sixth of it gathered into the slots.
-use Prim.Native.Nat.{ℕ}
-use Rattle.phonon.specs.Sets.{Legs}
+use Rattle.phonon.specs.Handed.{tables_of}
 use Rattle.reciprocal_to_normal.proofs.ListingLaws.{outside_above}
 use Rattle.real_to_normal.specs.Work.{constants_at, scratch_at, listing_at}
-use Rattle.real_to_normal.proofs.PlaceLaws.{columns_end, columns_pre, constants_end, scratch_end, listing_fits, outside_listing}
-use Rattle.real_to_normal.proofs.SlotLaws.{order_gathered}
+use Rattle.real_to_normal.proofs.PlaceLaws.{columns_pre, constants_end, scratch_end, listing_fits, outside_listing}
+use Rattle.real_to_normal.proofs.OrderLaws.{columns_end}
+use Rattle.real_to_normal.proofs.SlotLaws.{picked_fit, order_gathered}
 use Rattle.real_to_normal.proofs.symmetrized.add_order.Goals as goal
+
+pub frequencies_of-f-requires : goal.frequencies_of-f-requires
+frequencies_of-f-requires c =
+    picked_fit _ _ _ c.picked.ensures c.requires.points
 
 pub full_strengths-requires-clause-layout : goal.full_strengths-requires-clause-layout
 full_strengths-requires-clause-layout c =
-    let np = c.args.np in
-    let ns = c.args.ns in
-    let p = c.requires in (
-      constants_end np ns,
-      columns_end np ns p.slots.6 c.leg_at-e0.ensures,
-      columns_end np ns p.slots.7 c.leg_at-e1.ensures,
-      columns_end np ns p.slots.8 c.leg_at-e2.ensures,
-      scratch_end np ns,
-      listing_fits np ns c.order_constants.ensures.1.size p.sizes.3,
+    let t = tables_of c.args.tables.now in
+    let m = t.measures in
+    let p = c.requires in
+    let e = columns_end t c.args.order p.legs c.places.ensures c.picked-e.ensures in (
+      constants_end m.atoms m.supercell,
+      e.0,
+      e.1,
+      e.2,
+      scratch_end m.atoms m.supercell,
+      listing_fits m.atoms m.supercell c.order_constants.ensures.1.size p.sizes.2,
     )
 
 pub returns : goal.returns
 returns c =
     let a = c.args in
+    let t = tables_of a.tables.now in
+    let m = t.measures in
     let p = c.requires in
-    let g : Legs ℕ = record { leg0 = a.g0; leg1 = a.g1; leg2 = a.g2 } in
+    let f = c.frequencies_of-f.ensures in
     let o = c.order_constants.ensures in
-    let f = c.full_strengths.ensures in (
-      order_gathered a.np a.ns a.frequencies.now g o.1 (columns_pre a.np a.ns) a.order a.bands.now a.flags.now a.out.now _ a.cutoff (constants_at a.np a.ns) (scratch_at a.np a.ns) (listing_at a.np a.ns) p.sizes.0 p.slots.5 o.0 p.slots.6 p.slots.7 p.slots.8
-          c.leg_at-e0.ensures c.leg_at-e1.ensures c.leg_at-e2.ensures c.frequencies_of-x.ensures.0 c.frequencies_of-y.ensures.0 c.frequencies_of-z.ensures.0 f c.gather_sixth.ensures,
-      outside_listing a.np a.ns o.1 (outside_above f),
+    let s = c.full_strengths.ensures in (
+      order_gathered m.atoms m.supercell t.phonons.frequencies a.g o.1 (columns_pre m.atoms m.supercell) a.order t.bands a.flags.now a.out.now _ t.settings.cutoff (constants_at m.atoms m.supercell)
+          (scratch_at m.atoms m.supercell) (listing_at m.atoms m.supercell) p.sizes.0 p.slots.bands o.0 p.legs c.places.ensures c.picked-e.ensures c.picked.ensures f.0.0 f.1.0 f.2.0 s c.gather_sixth.ensures,
+      outside_listing m.atoms m.supercell o.1 (outside_above s),
     )
