@@ -7,6 +7,7 @@ mod occupations;
 mod plain;
 
 ghost use Rattle.std.specs.Prelude.{◌≡◌, ◌+◌, ◌*◌, ◌≤◌, length};
+ghost use Rattle.phonon.specs.Answers.{number_of};
 ghost use Rattle.phonon.specs.Number.{index, int};
 ghost use Rattle.phonon.specs.ImagSelfEnergy as Ise;
 ghost use Rattle.phonon.specs.Doors.{TotalsOutcome, totals_outcome};
@@ -15,10 +16,9 @@ ghost use Rattle.imag_self_energy.specs.Bands.{Sized};
 use crate::check::check;
 use crate::listed::listed_totals;
 use crate::plain::plain_totals;
-use checks::verdict::{Checked, answer_of};
 use common::float_of;
-use phonon::{Answer, Band, Bath, TotalsMeasures, Weights};
-use planes::{index_of, leg_frequencies};
+use phonon::{Band, Bath, IntegrationWeights, Refusal, TotalsMeasures, Weights};
+use planes::{index_of, part_of};
 
 // The most bands of a leg, and the places of a block of so many; and the same where few bands have lists of their own.
 const MOST_BANDS: usize = 24;
@@ -65,14 +65,12 @@ pub fn write_totals(
     frequencies: &[f64],
     cutoff: f64,
     flags: &[u8],
-    first: &[f64],
-    second: &[f64],
-    weight: i64,
-    temperature: f64,
+    integration: IntegrationWeights<'_>,
+    bath: Bath,
     strengths: &[f64],
     totals: &mut [f64],
 )
-    requires { Sized weights bands (length totals.old) flags.now first.now second.now strengths.now
+    requires { Sized weights bands (length totals.old) flags.now integration.first.now integration.second.now strengths.now
         × ((index (int triplet 1) + 1) * bands ≤ length frequencies.now)
         × ((index (int triplet 2) + 1) * bands ≤ length frequencies.now) }
     ensures { totals.new ≡ Ise.totals (length totals.old)
@@ -83,19 +81,21 @@ pub fn write_totals(
           frequencies = frequencies.now;
           cutoff = cutoff;
           flags = flags.now;
-          weight = weight;
-          first = first.now;
-          second = second.now;
-        }) temperature strengths.now }
+          weight = bath.weight;
+          first = integration.first.now;
+          second = integration.second.now;
+        }) bath.temperature strengths.now }
 {
     let g1 = index_of(triplet[1]);
     let g2 = index_of(triplet[2]);
-    let leg1 = leg_frequencies(frequencies, g1, bands);
-    let leg2 = leg_frequencies(frequencies, g2, bands);
+    let leg1 = part_of(frequencies, g1, bands);
+    let leg2 = part_of(frequencies, g2, bands);
+    let first = integration.first;
+    let second = integration.second;
     let h = Shared {
-        temperature: temperature,
+        temperature: bath.temperature,
         cutoff: cutoff,
-        weight: float_of(weight),
+        weight: float_of(bath.weight),
     };
     if bands <= PLAIN_BANDS {
         plain_totals(
@@ -118,11 +118,10 @@ pub fn imag_self_energy_at_triplet(
     flags: &[u8],
     strengths: &[f64],
     bath: Bath,
-    first: &[f64],
-    second: &[f64],
+    integration: IntegrationWeights<'_>,
     totals: &mut [f64],
-) -> Answer
-    ensures { ◌≡◌ {A = TotalsOutcome} (record { answer = result; totals = totals.new })
+) -> Result<(), Refusal>
+    ensures { ◌≡◌ {A = TotalsOutcome} (record { answer = number_of result; totals = totals.new })
         (totals_outcome (record {
           measures = m;
           weights = weights;
@@ -132,12 +131,12 @@ pub fn imag_self_energy_at_triplet(
           flags = flags.now;
           strengths = strengths.now;
           bath = bath;
-          first = first.now;
-          second = second.now;
+          first = integration.first.now;
+          second = integration.second.now;
           totals = totals.old;
         })) }
 {
-    let checked = check(
+    check(
         m,
         weights,
         triplet,
@@ -146,13 +145,9 @@ pub fn imag_self_energy_at_triplet(
         flags,
         strengths,
         bath,
-        first,
-        second,
+        integration,
         totals,
-    );
-    let Checked::Good(m) = checked else {
-        return answer_of(checked);
-    };
+    )?;
     write_totals(
         weights,
         3 * m.atoms,
@@ -160,12 +155,10 @@ pub fn imag_self_energy_at_triplet(
         frequencies,
         cutoff,
         flags,
-        first,
-        second,
-        bath.weight,
-        bath.temperature,
+        integration,
+        bath,
         strengths,
         totals,
     );
-    Answer::Accepted
+    Ok(())
 }
