@@ -8,7 +8,7 @@ ghost use Rattle.imag_self_energy.specs.Bands.{most_bands};
 use checks::groups::{check_bath, check_points};
 use checks::measures::measures_ok;
 use checks::values::cutoff_ok;
-use checks::verdict::lower_of;
+use checks::verdict::{lower_of, require};
 use phonon::{Bath, IntegrationWeights, Measures, Refusal, TotalsMeasures, Weights};
 
 // How many flags, first and second weights there are, of so many first bands and bands.
@@ -39,19 +39,12 @@ fn check_alone(
     let sized = (frequencies.len() == m.grid * bands)
         & (flags.len() == n)
         & (strengths.len() == m.first * bands * bands);
-    if !sized {
-        return Err(Refusal::Length);
-    }
+    require(sized, Refusal::Length)?;
     let finite = checks::is_finite(cutoff)
         & checks::all_finite(frequencies)
         & checks::all_finite(strengths);
-    if !finite {
-        return Err(Refusal::NotFinite);
-    }
-    if !cutoff_ok(cutoff) {
-        return Err(Refusal::Cutoff);
-    }
-    Ok(())
+    require(finite, Refusal::NotFinite)?;
+    require(cutoff_ok(cutoff), Refusal::Cutoff)
 }
 
 // All of them.
@@ -76,15 +69,13 @@ pub fn check(
           flags = flags.now;
           strengths = strengths.now;
           bath = bath;
-          first = integration.first.now;
-          second = integration.second.now;
+          first = integration.entry.first.now;
+          second = integration.entry.second.now;
           totals = totals.now;
         }) }
 {
     let all = Measures::from(m);
-    if !measures_ok(all) {
-        return Err(Refusal::Measure);
-    }
+    require(measures_ok(all), Refusal::Measure)?;
     let entries = entries_of(weights, m.first, 3 * m.atoms);
     let alone = check_alone(all, entries, frequencies, cutoff, flags, strengths);
     let points = check_points(m.grid, &triplet);

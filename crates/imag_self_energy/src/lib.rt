@@ -5,6 +5,7 @@ mod check;
 mod listed;
 mod occupations;
 mod plain;
+mod slots;
 
 ghost use Rattle.std.specs.Prelude.{◌≡◌, ◌+◌, ◌*◌, ◌≤◌, length};
 ghost use Rattle.phonon.specs.Answers.{number_of};
@@ -16,11 +17,13 @@ ghost use Rattle.imag_self_energy.specs.Bands.{Sized};
 use crate::check::check;
 use crate::listed::listed_totals;
 use crate::plain::plain_totals;
+use crate::slots::Slots;
 use common::float_of;
 use phonon::{Band, Bath, IntegrationWeights, Refusal, TotalsMeasures, Weights};
 use planes::{index_of, part_of};
 
-// The most bands of a leg, and the places of a block of so many; and the same where few bands have lists of their own.
+// The most bands of a leg, and the places of a block of so many; and the same where few bands have lists of their own:
+// the lists and factors are cleared when they are made, which of MOST_BANDS would take as long as the sum of a few.
 const MOST_BANDS: usize = 24;
 
 const MOST_PLACES: usize = MOST_BANDS * MOST_BANDS;
@@ -45,16 +48,6 @@ struct Shared {
     temperature: f64,
     cutoff: f64,
     weight: f64,
-}
-
-// The first band whose block of flags and weights position b reads.
-fn block_of(weights: Weights, b: usize) -> usize
-    ensures { result ≡ Ise.block weights b }
-{
-    match weights {
-        Weights::PerSlot => b,
-        Weights::AtFrequencyPoint => 0,
-    }
 }
 
 // The totals of one triplet, of bands = B. There are as many as totals is long.
@@ -82,29 +75,35 @@ pub fn write_totals(
           cutoff = cutoff;
           flags = flags.now;
           weight = bath.weight;
-          first = integration.first.now;
-          second = integration.second.now;
+          first = integration.entry.first.now;
+          second = integration.entry.second.now;
         }) bath.temperature strengths.now }
 {
     let g1 = index_of(triplet[1]);
     let g2 = index_of(triplet[2]);
     let leg1 = part_of(frequencies, g1, bands);
     let leg2 = part_of(frequencies, g2, bands);
-    let first = integration.first;
-    let second = integration.second;
-    let h = Shared {
+    let shared = Shared {
         temperature: bath.temperature,
-        cutoff: cutoff,
+        cutoff,
         weight: float_of(bath.weight),
     };
+    let slots = Slots {
+        shared,
+        weights,
+        positions: totals.len(),
+        bands,
+        flags,
+        first: integration.first,
+        second: integration.second,
+        strengths,
+    };
     if bands <= PLAIN_BANDS {
-        plain_totals(
-            h, weights, bands, leg1, leg2, flags, first, second, strengths, totals,
-        );
+        plain_totals(&slots, leg1, leg2, totals);
+    } else if bands <= FEW_BANDS {
+        listed_totals::<FEW_BANDS, FEW_PLACES>(&slots, leg1, leg2, totals);
     } else {
-        listed_totals(
-            h, weights, bands, leg1, leg2, flags, first, second, strengths, totals,
-        );
+        listed_totals::<MOST_BANDS, MOST_PLACES>(&slots, leg1, leg2, totals);
     }
 }
 
@@ -131,8 +130,8 @@ pub fn imag_self_energy_at_triplet(
           flags = flags.now;
           strengths = strengths.now;
           bath = bath;
-          first = integration.first.now;
-          second = integration.second.now;
+          first = integration.entry.first.now;
+          second = integration.entry.second.now;
           totals = totals.old;
         })) }
 {

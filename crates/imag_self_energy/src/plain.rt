@@ -1,12 +1,12 @@
 // The totals slot by slot, in listing order, k and then j: of a few bands this is done before lists are made.
 ghost use Rattle.std.specs.Prelude.{◌≡◌, ◌≤◌, length};
-ghost use Rattle.phonon.specs.Number.{table};
-ghost use Rattle.phonon.specs.ImagSelfEnergy.{block};
-ghost use Rattle.imag_self_energy.specs.Bands.{plain_bands, leg_bands, add_slot, band_total, Sized};
+ghost use Rattle.imag_self_energy.specs.Bands.{plain_bands, leg_bands, add_slot};
+ghost use Rattle.imag_self_energy.specs.Totals.{band_totals};
 
-use crate::occupations::occupations;
-use crate::{NO_BAND, PLAIN_BANDS, Shared, block_of};
-use phonon::{Band, Weights};
+use crate::occupations::fill_bands;
+use crate::slots::{Later, Slots};
+use crate::{NO_BAND, PLAIN_BANDS, Shared};
+use phonon::Band;
 
 // One slot, if it counts: p and q are its later bands, x and y its weights, v its strength.
 fn add_slot(sum: f64, h: Shared, flag: u8, p: Band, q: Band, x: f64, y: f64, v: f64) -> f64
@@ -24,26 +24,20 @@ fn add_slot(sum: f64, h: Shared, flag: u8, p: Band, q: Band, x: f64, y: f64, v: 
 }
 
 // The totals of all positions.
-fn fill_plain(
-    h: Shared,
-    weights: Weights,
-    n: usize,
-    seconds: [Band; PLAIN_BANDS],
-    thirds: [Band; PLAIN_BANDS],
-    flags: &[u8],
-    first: &[f64],
-    second: &[f64],
-    strengths: &[f64],
-    totals: &mut [f64],
-)
-    requires { (n ≤ plain_bands)
-        × Sized weights n (length totals.old) flags.now first.now second.now strengths.now }
-    ensures { totals.new ≡ table (length totals.old)
-        (λ b. band_total h n (block weights b) b seconds thirds flags.now first.now second.now
-        strengths.now) }
+fn fill_plain(slots: &Slots<'_>, later: &Later<'_>, totals: &mut [f64])
+    requires { (length totals.old ≡ slots.now.positions) × (length later.now.seconds.now ≡ slots.now.bands) }
+    ensures { totals.new ≡ band_totals slots.now later.now.seconds.now later.now.thirds.now }
 {
+    let h = slots.shared;
+    let n = slots.bands;
+    let flags = slots.flags;
+    let first = slots.first;
+    let second = slots.second;
+    let strengths = slots.strengths;
+    let seconds = later.seconds;
+    let thirds = later.thirds;
     for b in 0..totals.len() {
-        let c = block_of(weights, b);
+        let c = slots.block(b);
         let mut total = 0.0;
         for k in 0..n {
             let q = thirds[k];
@@ -66,43 +60,21 @@ fn fill_plain(
     }
 }
 
-// From the frequencies of the later legs, of n bands each.
-pub fn plain_totals(
-    h: Shared,
-    weights: Weights,
-    n: usize,
-    leg1: &[f64],
-    leg2: &[f64],
-    flags: &[u8],
-    first: &[f64],
-    second: &[f64],
-    strengths: &[f64],
-    totals: &mut [f64],
-)
-    requires { (n ≤ plain_bands)
-        × Sized weights n (length totals.old) flags.now first.now second.now strengths.now
-        × (length leg1.now ≡ n)
-        × (length leg2.now ≡ n) }
-    ensures { totals.new ≡ table (length totals.old)
-        (λ b. band_total h n (block weights b) b (leg_bands h leg1.now) (leg_bands h leg2.now)
-        flags.now first.now second.now strengths.now) }
+// From the frequencies of the later legs.
+pub fn plain_totals(slots: &Slots<'_>, leg1: &[f64], leg2: &[f64], totals: &mut [f64])
+    requires { (length totals.old ≡ slots.now.positions)
+        × (slots.now.bands ≤ plain_bands)
+        × (length leg1.now ≡ slots.now.bands)
+        × (length leg2.now ≡ slots.now.bands) }
+    ensures { totals.new ≡ band_totals slots.now (leg_bands slots.now.shared leg1.now) (leg_bands slots.now.shared leg2.now) }
 {
+    let n = slots.bands;
     let mut seconds = [NO_BAND; PLAIN_BANDS];
     let mut thirds = [NO_BAND; PLAIN_BANDS];
-    for j in 0..n {
-        let f = leg1[j];
-        let g = leg2[j];
-        let o = occupations(h.temperature, h.cutoff, f, g);
-        seconds[j] = Band {
-            frequency: f,
-            occupation: o.one,
-        };
-        thirds[j] = Band {
-            frequency: g,
-            occupation: o.two,
-        };
-    }
-    fill_plain(
-        h, weights, n, seconds, thirds, flags, first, second, strengths, totals,
-    );
+    fill_bands(slots.shared, leg1, leg2, &mut seconds[..n], &mut thirds[..n]);
+    let later = Later {
+        seconds: &seconds[..n],
+        thirds: &thirds[..n],
+    };
+    fill_plain(slots, &later, totals);
 }

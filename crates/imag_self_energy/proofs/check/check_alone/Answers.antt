@@ -1,18 +1,14 @@
 -- The first of three tests that fails.
 use native.Mathlib.Omega.{arith}
 use mathlib.Core.Path.{◌≡◌, refl, sym, ◌∙◌}
-use mathlib.Core.Bool.{true, ◌&&◌}
-use lib.ListN.{length}
+use mathlib.Core.Bool.{◌&&◌}
 use Rattle.phonon.specs.Tests.{all_true, all_true_after}
 use Rattle.phonon.specs.Refusal.{alone_lengths, alone_finite}
-use Rattle.phonon.proofs.Lowest.{pass, stop, none_left}
+use Rattle.phonon.proofs.Lowest.{pass, stop}
+use Rattle.checks.proofs.AnswerLaws.{passed, failed, handed_on, of_one}
 use Rattle.checks.proofs.MeasureLaws.{room}
-use Rattle.imag_self_energy.proofs.check.alone_number.Goals as goal
-use Rattle.imag_self_energy.proofs.check.alone_number.Goals.{After-all_finite-2, Else-not-sized}
-
-sized : (c : Else-not-sized) → all_true (alone_lengths c.args.m c.args.n (length c.args.frequencies.now) (length c.args.flags.now) (length c.args.strengths.now)) ≡ true
-unfolding alone_lengths all_true all_true_after
-sized c = c.if-not-sized.false
+use Rattle.imag_self_energy.proofs.check.check_alone.Goals as goal
+use Rattle.imag_self_energy.proofs.check.check_alone.Goals.{After-all_finite-2}
 
 real : (c : After-all_finite-2) → (c.is_finite.result && c.all_finite.result) && c.all_finite-2.result
     ≡ alone_finite c.args.cutoff c.args.frequencies.now c.args.strengths.now
@@ -31,15 +27,24 @@ overflow_mul-sized-2 c = omega (arith, (room _ c.requires).row)
 pub overflow_mul-sized-3 : goal.overflow_mul-sized-3
 overflow_mul-sized-3 c = omega (arith, (room _ c.requires).slots)
 
-pub returns-then-not-sized : goal.returns-then-not-sized
+pub returns-in_err-require : goal.returns-in_err-require
 unfolding alone_lengths all_true all_true_after
-returns-then-not-sized c = sym (pass _ _ c.requires ∙ stop 1 _ refl c.if-not-sized.true)
+returns-in_err-require c =
+    let f = failed _ _ c.require.ensures c.in_err-require.was in
+    rw (handed_on _ c.from_residual.ensures.1, f.1) (sym (pass _ _ c.requires ∙ stop 1 _ refl f.0))
 
-pub returns-then-not-finite : goal.returns-then-not-finite
-returns-then-not-finite c = sym (pass _ _ c.requires ∙ pass _ _ (sized (goal.at.returns-then-not-finite c).Else-not-sized) ∙ stop 3 _ refl (sym (real (goal.at.returns-then-not-finite c).After-all_finite-2) ∙ c.if-not-finite.true))
-
-pub returns-then-not-cutoff_ok : goal.returns-then-not-cutoff_ok
-returns-then-not-cutoff_ok c = sym (pass _ _ c.requires ∙ pass _ _ (sized (goal.at.returns-then-not-cutoff_ok c).Else-not-sized) ∙ pass _ _ (sym (real (goal.at.returns-then-not-cutoff_ok c).After-all_finite-2) ∙ c.if-not-finite.false) ∙ stop 6 _ refl (sym c.cutoff_ok.ensures ∙ c.if-not-cutoff_ok.true))
+pub returns-in_err-require-2 : goal.returns-in_err-require-2
+unfolding alone_lengths all_true all_true_after
+returns-in_err-require-2 c =
+    let g = passed _ _ c.require.ensures c.in_ok-require.was in
+    let f = failed _ _ c.require-2.ensures c.in_err-require-2.was in
+    let e = real (goal.at.returns-in_err-require-2 c).After-all_finite-2 in
+    rw (handed_on _ c.from_residual-in_err-require-2.ensures.1, f.1) (sym (pass _ _ c.requires ∙ pass _ _ g ∙ stop 3 _ refl (sym e ∙ f.0)))
 
 pub returns : goal.returns
-returns c = sym (pass _ _ c.requires ∙ pass _ _ (sized (goal.at.returns c).Else-not-sized) ∙ pass _ _ (sym (real (goal.at.returns c).After-all_finite-2) ∙ c.if-not-finite.false) ∙ pass _ _ (sym c.cutoff_ok.ensures ∙ c.if-not-cutoff_ok.false) ∙ none_left)
+unfolding alone_lengths all_true all_true_after
+returns c =
+    let g = passed _ _ c.require.ensures c.in_ok-require.was in
+    let h = passed _ _ c.require-2.ensures c.in_ok-require-2.was in
+    let e = real (goal.at.returns c).After-all_finite-2 in
+    of_one _ _ (rw c.cutoff_ok.ensures at c.require-3.ensures) ∙ sym (pass _ _ c.requires ∙ pass _ _ g ∙ pass _ _ (sym e ∙ h))

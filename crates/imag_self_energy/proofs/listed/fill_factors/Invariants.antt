@@ -11,13 +11,13 @@ invariant-loop-k l =
     (l.k ≤ l.n)
     × (length l.sums ≡ length l.initial.sums)
     × (length l.differences ≡ length l.initial.differences)
-    × Cells l.n l.j l.k (sum_of l.seconds l.thirds) l.sums
-    × Cells l.n l.j l.k (difference_of l.seconds l.thirds) l.differences
+    × Cells l.n l.j l.k (sum_of l.later.seconds.now l.later.thirds.now) l.sums
+    × Cells l.n l.j l.k (difference_of l.later.seconds.now l.later.thirds.now) l.differences
 
 abbrev pub invariant-loop-j : goal.invariant-loop-j
 invariant-loop-j l =
     (l.j ≤ l.n)
     × (length l.sums ≡ length l.initial.sums)
     × (length l.differences ≡ length l.initial.differences)
-    × Cells l.n l.j 0 (sum_of l.seconds l.thirds) l.sums
-    × Cells l.n l.j 0 (difference_of l.seconds l.thirds) l.differences
+    × Cells l.n l.j 0 (sum_of l.later.seconds.now l.later.thirds.now) l.sums
+    × Cells l.n l.j 0 (difference_of l.later.seconds.now l.later.thirds.now) l.differences

@@ -13,8 +13,9 @@ use Rattle.imag_self_energy.proofs.plain.fill_plain.Goals.{In-loop-j}
 -- slot (b, j, k) lies in each slice
 entry :
     (c : In-loop-j)
-    → SlotWithin c.args.n c.block_of-c.result c.loop-b.b c.loop-j.j c.loop-k.k c.args.flags.now c.args.first.now c.args.second.now c.args.strengths.now
-entry c = slot_within c.loop-j-test.true c.loop-k-test.true (sized_within _ c.block_of-c.ensures c.loop-b-test.true c.requires.1)
+    → SlotWithin c.args.slots.now.bands c.block-c.result c.loop-b.b c.loop-j.j c.loop-k.k
+        c.args.slots.now.flags.now c.args.slots.now.first.now c.args.slots.now.second.now c.args.slots.now.strengths.now
+entry c = slot_within c.loop-j-test.true c.loop-k-test.true (sized_within _ c.block-c.ensures (omega arith) c.args.slots.now.sized)
 
 pub loop-k-init : goal.loop-k-init
 unfolding fold
@@ -72,10 +73,11 @@ loop-b-preserved c =
       omega arith,
       refl,
       length-set l.totals l.b c.loop-k.total ∙ l.invariant.2,
-      filled_step _ l.invariant.3 h (whole _ _ _ _ _ _ _ _ _ _ _ _ c.block_of-c.ensures (omega arith) c.loop-k.invariant.1),
+      filled_step _ l.invariant.3 h (whole _ _ _ _ _ _ _ _ _ _ _ _ c.block-c.ensures (omega arith) c.loop-k.invariant.1),
     )
 
 pub returns : goal.returns
 returns c =
-    let e : c.loop-b.b ≡ length c.args.totals.now = omega arith in
-    filled_table c.loop-b.invariant.2 (rw e at c.loop-b.invariant.3)
+    let e : c.loop-b.b ≡ c.args.slots.now.positions = omega arith in
+    let all : length c.loop-b.totals ≡ c.args.slots.now.positions = omega arith in
+    filled_table all (rw e at c.loop-b.invariant.3)

@@ -19,4 +19,4 @@ invariant-loop-b l =
     (l.b ≤ l.b-end)
     × (l.b-end ≡ length l.initial.totals)
     × (length l.totals ≡ length l.initial.totals)
-    × Filled l.totals l.b (λ i. band_total l.h l.n (block l.weights i) i l.seconds l.thirds l.flags l.first l.second l.strengths)
+    × Filled l.totals l.b (λ i. band_total l.h l.n (block l.slots.weights i) i l.seconds l.thirds l.flags l.first l.second l.strengths)
