@@ -70,18 +70,30 @@ fn list_unflagged(
 
 // ---- the sum, in listing order
 
-// What the occupations of each pair make of its two weights: a factor of each, at the pair's place.
-fn fill_factors(later: &Later<'_>, sums: &mut [f64], differences: &mut [f64])
-    requires { (length later.now.seconds.now * length later.now.seconds.now ≤ length sums.old)
-        × (length later.now.seconds.now * length later.now.seconds.now ≤ length differences.old) }
-    ensures { Factors (length later.now.seconds.now) later.now.seconds.now later.now.thirds.now sums.new differences.new }
+// What the occupations of a pair make of its two weights: a factor of each.
+#[derive(Clone, Copy)]
+struct Factor {
+    sum: f64,
+    difference: f64,
+}
+
+const NO_FACTOR: Factor = Factor {
+    sum: 0.0,
+    difference: 0.0,
+};
+
+// Those of each pair, at its place.
+fn fill_factors(later: &Later<'_>, factors: &mut [Factor])
+    requires { length later.now.seconds.now * length later.now.seconds.now ≤ length factors.old }
+    ensures { Factors (length later.now.seconds.now) later.now.seconds.now later.now.thirds.now factors.new }
 {
     let n = later.seconds.len();
     for (j, p) in later.seconds.iter().enumerate() {
         for (k, q) in later.thirds.iter().enumerate() {
-            let o = j * n + k;
-            sums[o] = p.occupation + q.occupation + 1.0;
-            differences[o] = p.occupation - q.occupation;
+            factors[j * n + k] = Factor {
+                sum: p.occupation + q.occupation + 1.0,
+                difference: p.occupation - q.occupation,
+            };
         }
     }
 }
@@ -90,25 +102,24 @@ fn fill_factors(later: &Later<'_>, sums: &mut [f64], differences: &mut [f64])
 fn sum_warm(
     weight: f64,
     list: &[u16],
-    sums: &[f64],
-    differences: &[f64],
+    factors: &[Factor],
     x: &[f64],
     y: &[f64],
     v: &[f64],
 ) -> f64
     requires { Places (length v.now) list.now (length list.now)
-        × (length v.now ≤ length sums.now)
-        × (length v.now ≤ length differences.now)
+        × (length v.now ≤ length factors.now)
         × (length v.now ≤ length x.now)
         × (length v.now ≤ length y.now) }
     ensures { result ≡ fold (length list.now) f0
-        (λ i t. t ⊕ warm_term weight sums.now differences.now x.now y.now
+        (λ i t. t ⊕ warm_term weight factors.now x.now y.now
         v.now (get_or list.now i 0)) }
 {
     let mut total = 0.0;
     for place in list {
         let o = usize::from(*place);
-        total += (sums[o] * x[o] + differences[o] * y[o]) * v[o] * weight;
+        let f = factors[o];
+        total += (f.sum * x[o] + f.difference * y[o]) * v[o] * weight;
     }
     total
 }
@@ -130,19 +141,17 @@ fn sum_cold(weight: f64, list: &[u16], x: &[f64], v: &[f64]) -> f64
 fn sum_listed(
     slots: &Slots<'_>,
     list: &[u16],
-    sums: &[f64],
-    differences: &[f64],
+    factors: &[Factor],
     c: usize,
     b: usize,
 ) -> f64
     requires { Places (slots.now.bands * slots.now.bands) list.now (length list.now)
-        × (slots.now.bands * slots.now.bands ≤ length sums.now)
-        × (slots.now.bands * slots.now.bands ≤ length differences.now)
+        × (slots.now.bands * slots.now.bands ≤ length factors.now)
         × ((c + 1) * (slots.now.bands * slots.now.bands) ≤ length slots.now.first.now)
         × ((c + 1) * (slots.now.bands * slots.now.bands) ≤ length slots.now.second.now)
         × ((b + 1) * (slots.now.bands * slots.now.bands) ≤ length slots.now.strengths.now) }
     ensures { result ≡ fold (length list.now) f0
-        (λ i t. t ⊕ place_term slots.now.shared sums.now differences.now (slots.now.bands * slots.now.bands) c slots.now.first.now slots.now.second.now
+        (λ i t. t ⊕ place_term slots.now.shared factors.now (slots.now.bands * slots.now.bands) c slots.now.first.now slots.now.second.now
         b slots.now.strengths.now (get_or list.now i 0)) }
 {
     let area = slots.bands * slots.bands;
@@ -151,7 +160,7 @@ fn sum_listed(
     let v = part_of(slots.strengths, b, area);
     if 0.0 < slots.shared.temperature {
         let y = part_of(slots.second, c, area);
-        return sum_warm(weight, list, sums, differences, x, y, v);
+        return sum_warm(weight, list, factors, x, y, v);
     }
     sum_cold(weight, list, x, v)
 }
@@ -161,8 +170,7 @@ fn sum_listed(
 fn fill_totals(
     slots: &Slots<'_>,
     pairs: &[u16],
-    sums: &[f64],
-    differences: &[f64],
+    factors: &[Factor],
     one: &mut [u16],
     two: &mut [u16],
     totals: &mut [f64],
@@ -170,13 +178,12 @@ fn fill_totals(
     requires { (length totals.old ≡ slots.now.positions)
         × (length pairs.now ≤ slots.now.bands * slots.now.bands)
         × Places (slots.now.bands * slots.now.bands) pairs.now (length pairs.now)
-        × (slots.now.bands * slots.now.bands ≤ length sums.now)
-        × (slots.now.bands * slots.now.bands ≤ length differences.now)
+        × (slots.now.bands * slots.now.bands ≤ length factors.now)
         × (slots.now.bands * slots.now.bands ≤ length one.old)
         × (slots.now.bands * slots.now.bands ≤ length two.old) }
     ensures { totals.new ≡ table (length totals.old)
         (λ b. pair_total slots.now.shared (slots.now.bands * slots.now.bands) (length pairs.now) pairs.now slots.now.flags.now slots.now.first.now slots.now.second.now
-        slots.now.strengths.now sums.now differences.now (block slots.now.weights b) b) }
+        slots.now.strengths.now factors.now (block slots.now.weights b) b) }
 {
     let area = slots.bands * slots.bands;
     let positions = totals.len();
@@ -186,8 +193,8 @@ fn fill_totals(
         let c = slots.block(b);
         let d = slots.block(e);
         let (m, l) = list_unflagged(pairs, area, slots.flags, c, d, one, two);
-        totals[b] = sum_listed(slots, &one[..m], sums, differences, c, b);
-        totals[e] = sum_listed(slots, &two[..l], sums, differences, d, e);
+        totals[b] = sum_listed(slots, &one[..m], factors, c, b);
+        totals[e] = sum_listed(slots, &two[..l], factors, d, e);
     }
 }
 
@@ -218,15 +225,13 @@ pub fn listed_totals<const N: usize, const PLACES: usize>(
     let mut pairs = [0u16; PLACES];
     let mut one = [0u16; PLACES];
     let mut two = [0u16; PLACES];
-    let mut sums = [0.0; PLACES];
-    let mut differences = [0.0; PLACES];
+    let mut factors = [NO_FACTOR; PLACES];
     let count = list_pairs(slots.shared.cutoff, &later, &mut pairs);
-    fill_factors(&later, &mut sums, &mut differences);
+    fill_factors(&later, &mut factors);
     fill_totals(
         slots,
         &pairs[..count],
-        &sums,
-        &differences,
+        &factors,
         &mut one,
         &mut two,
         totals,

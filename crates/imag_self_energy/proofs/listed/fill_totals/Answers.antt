@@ -36,14 +36,14 @@ same_length c = simp length-set c.loop-b.invariant.3
 abbrev total_of : After-sum_listed-in-loop-b → ℕ → Float
 total_of c i =
     let s = c.args.slots.now in
-    pair_total s.shared (s.bands * s.bands) (length c.args.pairs.now) c.args.pairs.now s.flags.now s.first.now s.second.now s.strengths.now c.args.sums.now c.args.differences.now (block s.weights i) i
+    pair_total s.shared (s.bands * s.bands) (length c.args.pairs.now) c.args.pairs.now s.flags.now s.first.now s.second.now s.strengths.now c.args.factors.now (block s.weights i) i
 
 filled : (c : After-sum_listed-in-loop-b) → Filled (written c) (c.min-e.result + 1) (total_of c)
 filled c =
     let u = c.list_unflagged-m.ensures in
     filled_two _ _ c.loop-b.invariant.4 (omega arith) (omega arith)
-    (total_listed _ _ _ _ _ _ _ _ _ _ _ _ _ _ _ c.block-c.ensures (listed_front _ _ u.0) c.sum_listed.ensures)
-    (total_listed _ _ _ _ _ _ _ _ _ _ _ _ _ _ _ c.block-d.ensures (listed_front _ _ u.1) c.sum_listed-in-loop-b.ensures)
+    (total_listed _ _ _ _ _ _ _ _ _ _ _ _ _ _ c.block-c.ensures (listed_front _ _ u.0) c.sum_listed.ensures)
+    (total_listed _ _ _ _ _ _ _ _ _ _ _ _ _ _ c.block-d.ensures (listed_front _ _ u.1) c.sum_listed-in-loop-b.ensures)
     (omega arith) (omega arith)
 
 pub list_unflagged-m-requires : goal.list_unflagged-m-requires
@@ -51,19 +51,19 @@ list_unflagged-m-requires c =
     let p = c.requires in
     let few = c.args.slots.now.sized.few in
     let w = within (goal.at.list_unflagged-m-requires c).After-block-d in
-    (mul-le-mul few few, p.1, p.2, omega (arith, p.1, p.5), omega (arith, p.1, p.6), w.0.flags, w.1.flags)
+    (mul-le-mul few few, p.1, p.2, omega (arith, p.1, p.4), omega (arith, p.1, p.5), w.0.flags, w.1.flags)
 
 pub sum_listed-requires : goal.sum_listed-requires
 sum_listed-requires c =
     let p = c.requires in
     let w = (within (goal.at.sum_listed-requires c).After-block-d).0 in
-    ((listed_front _ _ c.list_unflagged-m.ensures.0).places, p.3, p.4, w.first, w.second, w.strengths)
+    ((listed_front _ _ c.list_unflagged-m.ensures.0).places, p.3, w.first, w.second, w.strengths)
 
 pub sum_listed-requires-in-loop-b : goal.sum_listed-requires-in-loop-b
 sum_listed-requires-in-loop-b c =
     let p = c.requires in
     let w = (within (goal.at.sum_listed-requires-in-loop-b c).After-block-d).1 in
-    ((listed_front _ _ c.list_unflagged-m.ensures.1).places, p.3, p.4, w.first, w.second, w.strengths)
+    ((listed_front _ _ c.list_unflagged-m.ensures.1).places, p.3, w.first, w.second, w.strengths)
 
 pub loop-b-preserved : goal.loop-b-preserved
 loop-b-preserved c =

@@ -8,5 +8,5 @@ pub returns : goal.returns
 returns g c =
     let b = c.fill_bands.ensures in
     let one = front_bands _ _ _ b.0 c.requires.5 in
-    listed_totals_are c.args.slots.now _ _ _ _ _ _ (front_length _ _ one c.requires.5) c.requires.0 c.list_pairs-count.ensures.1 c.fill_factors.ensures c.fill_totals.ensures
+    listed_totals_are c.args.slots.now _ _ _ _ _ (front_length _ _ one c.requires.5) c.requires.0 c.list_pairs-count.ensures.1 c.fill_factors.ensures c.fill_totals.ensures
     ∙ rw (one, front_bands _ _ _ b.1 c.requires.6) refl

@@ -7,4 +7,4 @@ use Rattle.imag_self_energy.specs.Lists.{warm_term}
 use Rattle.imag_self_energy.proofs.listed.sum_warm.Given as goal
 
 abbrev pub invariant-loop-place : goal.invariant-loop-place
-invariant-loop-place l = (l.place-index ≤ length l.list) × (l.total ≡ fold l.place-index f0 (λ k t. t ⊕ warm_term l.weight l.sums l.differences l.x l.y l.v (get_or l.list k 0)))
+invariant-loop-place l = (l.place-index ≤ length l.list) × (l.total ≡ fold l.place-index f0 (λ k t. t ⊕ warm_term l.weight l.factors l.x l.y l.v (get_or l.list k 0)))
