@@ -34,24 +34,21 @@ fn fill_plain(slots: &Slots<'_>, later: &Later<'_>, totals: &mut [f64])
     let first = slots.first;
     let second = slots.second;
     let strengths = slots.strengths;
-    let seconds = later.seconds;
-    let thirds = later.thirds;
     for b in 0..totals.len() {
         let c = slots.block(b);
         let mut total = 0.0;
-        for k in 0..n {
-            let q = thirds[k];
-            for j in 0..n {
-                let p = (c * n + j) * n + k;
+        for (k, q) in later.thirds.iter().enumerate() {
+            for (j, p) in later.seconds.iter().enumerate() {
+                let o = (c * n + j) * n + k;
                 let s = (b * n + j) * n + k;
                 total = add_slot(
                     total,
                     h,
-                    flags[p],
-                    seconds[j],
-                    q,
-                    first[p],
-                    second[p],
+                    flags[o],
+                    *p,
+                    *q,
+                    first[o],
+                    second[o],
                     strengths[s],
                 );
             }

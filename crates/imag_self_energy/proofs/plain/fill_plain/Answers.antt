@@ -15,7 +15,7 @@ entry :
     (c : In-loop-j)
     → SlotWithin c.args.slots.now.bands c.block-c.result c.loop-b.b c.loop-j.j c.loop-k.k
         c.args.slots.now.flags.now c.args.slots.now.first.now c.args.slots.now.second.now c.args.slots.now.strengths.now
-entry c = slot_within c.loop-j-test.true c.loop-k-test.true (sized_within _ c.block-c.ensures (omega arith) c.args.slots.now.sized)
+entry c = slot_within (omega arith) (omega (arith, c.args.later.now.alike)) (sized_within _ c.block-c.ensures (omega arith) c.args.slots.now.sized)
 
 pub loop-k-init : goal.loop-k-init
 unfolding fold
@@ -25,32 +25,32 @@ pub loop-j-init : goal.loop-j-init
 unfolding fold
 loop-j-init c = (omega arith, refl)
 
-pub overflow_mul-p : goal.overflow_mul-p
-overflow_mul-p c = omega (arith, entry (goal.at.overflow_mul-p c).In-loop-j)
+pub overflow_mul-o : goal.overflow_mul-o
+overflow_mul-o c = omega (arith, entry (goal.at.overflow_mul-o c).In-loop-j)
 
-pub overflow_add-p : goal.overflow_add-p
-overflow_add-p c = omega (arith, entry (goal.at.overflow_add-p c).In-loop-j)
+pub overflow_add-o : goal.overflow_add-o
+overflow_add-o c = omega (arith, entry (goal.at.overflow_add-o c).In-loop-j)
 
-pub overflow_mul-p-in-loop-j : goal.overflow_mul-p-in-loop-j
-overflow_mul-p-in-loop-j c = omega (arith, entry (goal.at.overflow_mul-p-in-loop-j c).In-loop-j)
+pub overflow_mul-o-in-loop-j : goal.overflow_mul-o-in-loop-j
+overflow_mul-o-in-loop-j c = omega (arith, entry (goal.at.overflow_mul-o-in-loop-j c).In-loop-j)
 
-pub overflow_add-p-in-loop-j : goal.overflow_add-p-in-loop-j
-overflow_add-p-in-loop-j c = omega (arith, entry (goal.at.overflow_add-p-in-loop-j c).In-loop-j)
+pub overflow_add-o-in-loop-j : goal.overflow_add-o-in-loop-j
+overflow_add-o-in-loop-j c = omega (arith, entry (goal.at.overflow_add-o-in-loop-j c).In-loop-j)
 
-pub bounds-flags-p : goal.bounds-flags-p
-bounds-flags-p c = omega (arith, (entry (goal.at.bounds-flags-p c).In-loop-j).flag.inside)
+pub bounds-flags-o : goal.bounds-flags-o
+bounds-flags-o c = omega (arith, (entry (goal.at.bounds-flags-o c).In-loop-j).flag.inside)
 
-pub offset_bounds-first-p : goal.offset_bounds-first-p
-offset_bounds-first-p c = omega (arith, entry (goal.at.offset_bounds-first-p c).In-loop-j)
+pub offset_bounds-first-o : goal.offset_bounds-first-o
+offset_bounds-first-o c = omega (arith, entry (goal.at.offset_bounds-first-o c).In-loop-j)
 
-pub bounds-first-p : goal.bounds-first-p
-bounds-first-p c = omega (arith, (entry (goal.at.bounds-first-p c).In-loop-j).first.inside)
+pub bounds-first-o : goal.bounds-first-o
+bounds-first-o c = omega (arith, (entry (goal.at.bounds-first-o c).In-loop-j).first.inside)
 
-pub offset_bounds-second-p : goal.offset_bounds-second-p
-offset_bounds-second-p c = omega (arith, entry (goal.at.offset_bounds-second-p c).In-loop-j)
+pub offset_bounds-second-o : goal.offset_bounds-second-o
+offset_bounds-second-o c = omega (arith, entry (goal.at.offset_bounds-second-o c).In-loop-j)
 
-pub bounds-second-p : goal.bounds-second-p
-bounds-second-p c = omega (arith, (entry (goal.at.bounds-second-p c).In-loop-j).second.inside)
+pub bounds-second-o : goal.bounds-second-o
+bounds-second-o c = omega (arith, (entry (goal.at.bounds-second-o c).In-loop-j).second.inside)
 
 pub offset_bounds-strengths-s : goal.offset_bounds-strengths-s
 offset_bounds-strengths-s c = omega (arith, entry (goal.at.offset_bounds-strengths-s c).In-loop-j)
@@ -64,7 +64,7 @@ loop-j-preserved c = (omega arith, turn _ _ _ c.add_slot-total.ensures c.loop-j.
 
 pub loop-k-preserved : goal.loop-k-preserved
 unfolding column_sum
-loop-k-preserved c = (omega arith, turn _ _ _ (at_end _ _ _ _ (omega arith) c.loop-j.invariant.1) c.loop-k.invariant.1)
+loop-k-preserved c = (omega (arith, c.args.later.now.alike), turn _ _ _ (at_end _ _ _ _ (omega arith) c.loop-j.invariant.1) c.loop-k.invariant.1)
 
 pub loop-b-preserved : goal.loop-b-preserved
 loop-b-preserved c =
@@ -73,7 +73,7 @@ loop-b-preserved c =
       omega arith,
       refl,
       length-set l.totals l.b c.loop-k.total ∙ l.invariant.2,
-      filled_step _ l.invariant.3 h (whole _ _ _ _ _ _ _ _ _ _ _ _ c.block-c.ensures (omega arith) c.loop-k.invariant.1),
+      filled_step _ l.invariant.3 h (whole _ _ _ _ _ _ _ _ _ _ _ _ c.block-c.ensures (omega (arith, c.args.later.now.alike)) c.loop-k.invariant.1),
     )
 
 pub returns : goal.returns
