@@ -34,7 +34,7 @@ fn fill_plain(slots: &Slots<'_>, later: &Later<'_>, totals: &mut [f64])
     let first = slots.first;
     let second = slots.second;
     let strengths = slots.strengths;
-    for b in 0..totals.len() {
+    for (b, place) in totals.iter_mut().enumerate() {
         let c = slots.block(b);
         let mut total = 0.0;
         for (k, q) in later.thirds.iter().enumerate() {
@@ -53,7 +53,7 @@ fn fill_plain(slots: &Slots<'_>, later: &Later<'_>, totals: &mut [f64])
                 );
             }
         }
-        totals[b] = total;
+        *place = total;
     }
 }
 
