@@ -12,6 +12,7 @@ use checks::verdict::{lower_of, require};
 use phonon::{Bath, IntegrationWeights, Measures, Refusal, TotalsMeasures, Weights};
 
 // How many flags, first and second weights there are, of so many first bands and bands.
+#[tactic(auto, unfolding(phonon::specs::Limits::entries_of))]
 fn entries_of(weights: Weights, first: usize, bands: usize) -> usize
     requires { (first ≤ most_bands) × (bands ≤ most_bands) }
     ensures { result ≡ entries_of weights first bands }

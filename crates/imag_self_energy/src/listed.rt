@@ -16,6 +16,7 @@ use planes::part_of;
 // ---- lists of places
 
 // The places of the pairs whose bands both exceed the cutoff, in listing order, k and then j. The answer is how many.
+#[tactic(auto, using(crate::proofs::ListLaws::listed_none), unfolding(phonon::specs::Number::fold))]
 fn list_pairs(cutoff: f64, later: &Later<'_>, pairs: &mut [u16]) -> usize
     requires { length later.now.seconds.now * length later.now.seconds.now ≤ length pairs.old }
     ensures { (result ≤ length later.now.seconds.now * length later.now.seconds.now)
@@ -35,6 +36,7 @@ fn list_pairs(cutoff: f64, later: &Later<'_>, pairs: &mut [u16]) -> usize
 
 // Of the listed pairs those that are unflagged in block c, and those in block d, of area flags each. The answer is how
 // many of each. Two lists at once take less time than one after the other.
+#[tactic(auto, using(crate::proofs::ListLaws::listed_none), unfolding(phonon::specs::Number::fold, crate::specs::Lists::unflagged_walk))]
 fn list_unflagged(
     pairs: &[u16],
     area: usize,
@@ -99,6 +101,7 @@ fn fill_factors(later: &Later<'_>, factors: &mut [Factor])
 }
 
 // Above temperature 0: the listed slots of a block, of first weights x, second weights y and strengths v.
+#[tactic(auto, using(crate::proofs::Laws::turn), unfolding(crate::specs::Lists::warm_term, phonon::specs::Number::fold))]
 fn sum_warm(
     weight: f64,
     list: &[u16],
@@ -125,6 +128,7 @@ fn sum_warm(
 }
 
 // At temperature 0.
+#[tactic(auto, using(crate::proofs::Laws::turn), unfolding(crate::specs::Lists::cold_term, phonon::specs::Number::fold))]
 fn sum_cold(weight: f64, list: &[u16], x: &[f64], v: &[f64]) -> f64
     requires { Places (length v.now) list.now (length list.now) × (length v.now ≤ length x.now) }
     ensures { result ≡ fold (length list.now) f0 (λ i t. t ⊕ cold_term weight x.now v.now (get_or list.now i 0)) }
@@ -138,6 +142,7 @@ fn sum_cold(weight: f64, list: &[u16], x: &[f64], v: &[f64]) -> f64
 }
 
 // The listed slots, with block c of the weights and block b of the strengths.
+#[tactic(auto, unfolding(crate::specs::Lists::place_term))]
 fn sum_listed(
     slots: &Slots<'_>,
     list: &[u16],

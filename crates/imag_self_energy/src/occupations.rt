@@ -7,6 +7,7 @@ use crate::Shared;
 use phonon::Band;
 
 // The occupation of a band; one that does not exceed the cutoff has the source's mark, -1.0.
+#[tactic(auto, using(crate::proofs::Laws::above))]
 fn occupation(temperature: f64, cutoff: f64, f: f64) -> f64
     ensures { result ≡ marked temperature cutoff f }
 {

@@ -9,6 +9,7 @@ use crate::{NO_BAND, PLAIN_BANDS, Shared};
 use phonon::Band;
 
 // One slot, if it counts: p and q are its later bands, x and y its weights, v its strength.
+#[tactic(auto, unfolding(crate::specs::Bands::add_slot, phonon::specs::ImagSelfEnergy::contribution))]
 fn add_slot(sum: f64, h: Shared, flag: u8, p: Band, q: Band, x: f64, y: f64, v: f64) -> f64
     ensures { result ≡ add_slot h flag p q x y v sum }
 {
@@ -24,6 +25,7 @@ fn add_slot(sum: f64, h: Shared, flag: u8, p: Band, q: Band, x: f64, y: f64, v: 
 }
 
 // The totals of all positions.
+#[tactic(auto, using(crate::proofs::Laws::turn), unfolding(crate::specs::Bands::slot_step, phonon::specs::Number::fold))]
 fn fill_plain(slots: &Slots<'_>, later: &Later<'_>, totals: &mut [f64])
     requires { (length totals.old ≡ slots.now.positions) × (length later.now.seconds.now ≡ slots.now.bands) }
     ensures { totals.new ≡ band_totals slots.now later.now.seconds.now later.now.thirds.now }

@@ -14,14 +14,6 @@ use Rattle.imag_self_energy.proofs.listed.list_pairs.Goals.{In-loop-j}
 room : (c : In-loop-j) → Room (length c.args.later.now.seconds.now) c.loop-j.j c.loop-k.k
 room c = room_of c.args.later.now.few (omega (arith, c.args.later.now.alike)) (omega (arith, c.args.later.now.alike))
 
-pub loop-k-init : goal.loop-k-init
-unfolding fold
-loop-k-init c = (omega arith, omega arith, refl, listed_none _ _)
-
-pub loop-j-init : goal.loop-j-init
-unfolding fold
-loop-j-init c = (omega arith, omega arith, refl, c.loop-k.invariant.3)
-
 pub loop-j-preserved : goal.loop-j-preserved
 loop-j-preserved c =
     let l = c.loop-j in

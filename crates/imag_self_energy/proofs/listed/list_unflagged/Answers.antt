@@ -7,10 +7,6 @@ use Rattle.imag_self_energy.specs.Lists.{unflagged_walk}
 use Rattle.imag_self_energy.proofs.ListLaws.{listed_none, gain_most, unflagged_turn}
 use Rattle.imag_self_energy.proofs.listed.list_unflagged.Goals as goal
 
-pub loop-x-init : goal.loop-x-init
-unfolding fold
-loop-x-init c = (omega arith, omega arith, omega arith, refl, refl, listed_none _ _, listed_none _ _)
-
 pub loop-x-preserved : goal.loop-x-preserved
 loop-x-preserved c =
     let l = c.loop-x in

@@ -17,14 +17,6 @@ entry :
         c.args.slots.now.flags.now c.args.slots.now.first.now c.args.slots.now.second.now c.args.slots.now.strengths.now
 entry c = slot_within (omega arith) (omega (arith, c.args.later.now.alike)) (sized_within _ c.block-c.ensures (omega arith) c.args.slots.now.sized)
 
-pub loop-k-init : goal.loop-k-init
-unfolding fold
-loop-k-init c = (omega arith, refl)
-
-pub loop-j-init : goal.loop-j-init
-unfolding fold
-loop-j-init c = (omega arith, refl)
-
 pub overflow_mul-o : goal.overflow_mul-o
 overflow_mul-o c = omega (arith, entry (goal.at.overflow_mul-o c).In-loop-j)
 
@@ -57,10 +49,6 @@ offset_bounds-strengths-s c = omega (arith, entry (goal.at.offset_bounds-strengt
 
 pub bounds-strengths-s : goal.bounds-strengths-s
 bounds-strengths-s c = omega (arith, (entry (goal.at.bounds-strengths-s c).In-loop-j).strength.inside)
-
-pub loop-j-preserved : goal.loop-j-preserved
-unfolding slot_step
-loop-j-preserved c = (omega arith, turn _ _ _ c.add_slot-total.ensures c.loop-j.invariant.1)
 
 pub loop-k-preserved : goal.loop-k-preserved
 unfolding column_sum
