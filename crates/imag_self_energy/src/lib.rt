@@ -36,7 +36,7 @@ const FEW_PLACES: usize = FEW_BANDS * FEW_BANDS;
 // the time of totals alone with one atom.
 const PLAIN_BANDS: usize = 6;
 
-// What an array of bands holds before it is filled.
+// What an array of bands holds before it is filled. An occupation of -1.0 is document 01's mark of a band that has none.
 const NO_BAND: Band = Band {
     frequency: 0.0,
     occupation: -1.0,

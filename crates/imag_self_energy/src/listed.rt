@@ -141,7 +141,7 @@ fn sum_cold(weight: f64, list: &[u16], x: &[f64], v: &[f64]) -> f64
     total
 }
 
-// The listed slots, with block c of the weights and block b of the strengths.
+// The listed slots, with block c of the weights and block b of the strengths: the temperature is tested once for them all.
 #[tactic(auto, unfolding(crate::specs::Lists::place_term))]
 fn sum_listed(
     slots: &Slots<'_>,
@@ -171,7 +171,8 @@ fn sum_listed(
 }
 
 // The totals of all positions, two at a time: of each the slots in listing order, k and then j. Lent are the pairs
-// that count, their factors, and room for two lists of n * n.
+// that count, their factors, and room for two lists of n * n. By index, which says what blocks a position reads: chunks
+// of two totals read no plainer, since a last one may stand alone.
 fn fill_totals(
     slots: &Slots<'_>,
     pairs: &[u16],

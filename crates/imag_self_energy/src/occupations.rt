@@ -30,7 +30,8 @@ fn occupations(temperature: f64, cutoff: f64, f: f64, g: f64) -> [f64; 2]
     ]
 }
 
-// The bands of both later legs, from their frequencies: of each leg one at a time.
+// The bands of both later legs, from their frequencies: of each leg one at a time. By index, since four slices zipped
+// read no plainer.
 pub fn fill_bands(
     h: Shared,
     leg1: &[f64],

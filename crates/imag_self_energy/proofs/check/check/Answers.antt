@@ -9,9 +9,9 @@ use Rattle.phonon.specs.declared.Refusal.TheVariants.{Measure}
 use Rattle.phonon.specs.declared.TotalsMeasures.{TotalsMeasures}
 use Rattle.phonon.specs.Sets.{measures_of}
 use Rattle.phonon.specs.Refusal.{measures_ok, totals_refusal}
-use Rattle.phonon.proofs.Lowest.{stop, join3}
+use Rattle.phonon.proofs.Lowest.{join3}
 use Rattle.phonon.proofs.Accepted.{Measured, measured_facts}
-use Rattle.checks.proofs.AnswerLaws.{required, passed, failed, handed_on}
+use Rattle.checks.proofs.AnswerLaws.{required, passed, turned}
 use Rattle.imag_self_energy.proofs.check.check.Goals as goal
 
 -- the measures that passed
@@ -21,9 +21,7 @@ facts m e f p q = measured_facts _ (rw (f, e) at (passed _ _ p q))
 pub returns-in_err-require : goal.returns-in_err-require
 unfolding totals_refusal
 returns-in_err-require c =
-    let f = failed _ _ c.require.ensures c.in_err-require.was in
-    let e = rw (c.measures_ok.ensures, c.from-all.ensures) at f.0 in
-    rw (handed_on _ c.from_residual.ensures.1, f.1) (sym (stop 0 _ refl e))
+    let e = rw c.from-all.ensures at c.measures_ok.ensures in turned _ _ _ refl e c.require.ensures c.in_err-require.was c.from_residual.ensures.1
 
 pub overflow_mul-m : goal.overflow_mul-m
 overflow_mul-m c = let m = facts c.args.m c.from-all.ensures c.measures_ok.ensures c.require.ensures c.in_ok-require.was in omega (arith, m.atoms_most)

@@ -4,8 +4,8 @@ use mathlib.Core.Path.{◌≡◌, refl, sym, ◌∙◌}
 use mathlib.Core.Bool.{◌&&◌}
 use Rattle.phonon.specs.Tests.{all_true, all_true_after}
 use Rattle.phonon.specs.Refusal.{alone_lengths, alone_finite}
-use Rattle.phonon.proofs.Lowest.{pass, stop}
-use Rattle.checks.proofs.AnswerLaws.{passed, failed, handed_on, of_one}
+use Rattle.phonon.proofs.Lowest.{pass}
+use Rattle.checks.proofs.AnswerLaws.{walked, turned, of_one}
 use Rattle.checks.proofs.MeasureLaws.{room}
 use Rattle.imag_self_energy.proofs.check.check_alone.Goals as goal
 use Rattle.imag_self_energy.proofs.check.check_alone.Goals.{After-all_finite-2}
@@ -29,22 +29,18 @@ overflow_mul-sized-3 c = omega (arith, (room _ c.requires).slots)
 
 pub returns-in_err-require : goal.returns-in_err-require
 unfolding alone_lengths all_true all_true_after
-returns-in_err-require c =
-    let f = failed _ _ c.require.ensures c.in_err-require.was in
-    rw (handed_on _ c.from_residual.ensures.1, f.1) (sym (pass _ _ c.requires ∙ stop 1 _ refl f.0))
+returns-in_err-require c = turned _ _ _ refl refl c.require.ensures c.in_err-require.was c.from_residual.ensures.1 ∙ sym (pass _ _ c.requires)
 
 pub returns-in_err-require-2 : goal.returns-in_err-require-2
 unfolding alone_lengths all_true all_true_after
 returns-in_err-require-2 c =
-    let g = passed _ _ c.require.ensures c.in_ok-require.was in
-    let f = failed _ _ c.require-2.ensures c.in_err-require-2.was in
     let e = real (goal.at.returns-in_err-require-2 c).After-all_finite-2 in
-    rw (handed_on _ c.from_residual-in_err-require-2.ensures.1, f.1) (sym (pass _ _ c.requires ∙ pass _ _ g ∙ stop 3 _ refl (sym e ∙ f.0)))
+    turned _ _ _ refl e c.require-2.ensures c.in_err-require-2.was c.from_residual-in_err-require-2.ensures.1
+    ∙ sym (pass _ _ c.requires ∙ walked _ _ refl c.require.ensures c.in_ok-require.was)
 
 pub returns : goal.returns
 unfolding alone_lengths all_true all_true_after
 returns c =
-    let g = passed _ _ c.require.ensures c.in_ok-require.was in
-    let h = passed _ _ c.require-2.ensures c.in_ok-require-2.was in
     let e = real (goal.at.returns c).After-all_finite-2 in
-    of_one _ _ (rw c.cutoff_ok.ensures at c.require-3.ensures) ∙ sym (pass _ _ c.requires ∙ pass _ _ g ∙ pass _ _ (sym e ∙ h))
+    of_one _ c.cutoff_ok.ensures c.require-3.ensures
+    ∙ sym (pass _ _ c.requires ∙ walked _ _ refl c.require.ensures c.in_ok-require.was ∙ walked _ _ e c.require-2.ensures c.in_ok-require-2.was)
