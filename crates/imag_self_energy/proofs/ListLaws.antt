@@ -7,13 +7,12 @@ use mathlib.Core.Bool.{Bool, true, false, ◌&&◌, cond}
 use mathlib.Core.List.{List}
 use mathlib.Core.Logic.{⊎_elim}
 use lib.Dec.{eqb}
-use lib.Ieee.{Float, nan, lt}
+use lib.Ieee.{Float, lt}
 use lib.ListN.{get_or, length, set, length-set, take}
 use mir.Val.{bool_byte}
 use Rattle.std.proofs.Common.{length-take-le}
 use lib.Seq.{get_or-set_same, get_or-set_other, get_or-take, get_or-drop}
 use Rattle.phonon.specs.declared.Band.{Band}
-use Rattle.phonon.specs.declared.Weights.{Weights}
 use Rattle.phonon.specs.Number.{◌⊕◌, f0, at, fold, table}
 use Rattle.phonon.specs.Sets.{slot, part}
 use Rattle.phonon.specs.ImagSelfEnergy.{block, contribution}

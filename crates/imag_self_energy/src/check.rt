@@ -62,18 +62,18 @@ pub fn check(
     totals: &[f64],
 ) -> Result<(), Refusal>
     ensures { number_of result ≡ totals_refusal (record {
-          measures = m;
-          weights = weights;
-          triplet = triplet;
-          frequencies = frequencies.now;
-          cutoff = cutoff;
-          flags = flags.now;
-          strengths = strengths.now;
-          bath = bath;
-          first = integration.entry.first.now;
-          second = integration.entry.second.now;
-          totals = totals.now;
-        }) }
+      measures = m;
+      weights = weights;
+      triplet = triplet;
+      frequencies = frequencies.now;
+      cutoff = cutoff;
+      flags = flags.now;
+      strengths = strengths.now;
+      bath = bath;
+      first = integration.entry.first.now;
+      second = integration.entry.second.now;
+      totals = totals.now;
+    }) }
 {
     let all = Measures::from(m);
     require(measures_ok(all), Refusal::Measure)?;

@@ -102,14 +102,7 @@ fn fill_factors(later: &Later<'_>, factors: &mut [Factor])
 
 // Above temperature 0: the listed slots of a block, of first weights x, second weights y and strengths v.
 #[tactic(auto, using(crate::proofs::Laws::turn), unfolding(crate::specs::Lists::warm_term, phonon::specs::Number::fold))]
-fn sum_warm(
-    weight: f64,
-    list: &[u16],
-    factors: &[Factor],
-    x: &[f64],
-    y: &[f64],
-    v: &[f64],
-) -> f64
+fn sum_warm(weight: f64, list: &[u16], factors: &[Factor], x: &[f64], y: &[f64], v: &[f64]) -> f64
     requires { Places (length v.now) list.now (length list.now)
         × (length v.now ≤ length factors.now)
         × (length v.now ≤ length x.now)
@@ -143,13 +136,7 @@ fn sum_cold(weight: f64, list: &[u16], x: &[f64], v: &[f64]) -> f64
 
 // The listed slots, with block c of the weights and block b of the strengths: the temperature is tested once for them all.
 #[tactic(auto, unfolding(crate::specs::Lists::place_term))]
-fn sum_listed(
-    slots: &Slots<'_>,
-    list: &[u16],
-    factors: &[Factor],
-    c: usize,
-    b: usize,
-) -> f64
+fn sum_listed(slots: &Slots<'_>, list: &[u16], factors: &[Factor], c: usize, b: usize) -> f64
     requires { Places (slots.now.bands * slots.now.bands) list.now (length list.now)
         × (slots.now.bands * slots.now.bands ≤ length factors.now)
         × ((c + 1) * (slots.now.bands * slots.now.bands) ≤ length slots.now.first.now)
@@ -223,7 +210,13 @@ pub fn listed_totals<const N: usize, const PLACES: usize>(
     let n = slots.bands;
     let mut seconds = [NO_BAND; N];
     let mut thirds = [NO_BAND; N];
-    fill_bands(slots.shared, leg1, leg2, &mut seconds[..n], &mut thirds[..n]);
+    fill_bands(
+        slots.shared,
+        leg1,
+        leg2,
+        &mut seconds[..n],
+        &mut thirds[..n],
+    );
     let later = Later {
         seconds: &seconds[..n],
         thirds: &thirds[..n],
@@ -234,12 +227,5 @@ pub fn listed_totals<const N: usize, const PLACES: usize>(
     let mut factors = [NO_FACTOR; PLACES];
     let count = list_pairs(slots.shared.cutoff, &later, &mut pairs);
     fill_factors(&later, &mut factors);
-    fill_totals(
-        slots,
-        &pairs[..count],
-        &factors,
-        &mut one,
-        &mut two,
-        totals,
-    );
+    fill_totals(slots, &pairs[..count], &factors, &mut one, &mut two, totals);
 }

@@ -32,13 +32,7 @@ fn occupations(temperature: f64, cutoff: f64, f: f64, g: f64) -> [f64; 2]
 
 // The bands of both later legs, from their frequencies: of each leg one at a time. By index, since four slices zipped
 // read no plainer.
-pub fn fill_bands(
-    h: Shared,
-    leg1: &[f64],
-    leg2: &[f64],
-    seconds: &mut [Band],
-    thirds: &mut [Band],
-)
+pub fn fill_bands(h: Shared, leg1: &[f64], leg2: &[f64], seconds: &mut [Band], thirds: &mut [Band])
     requires { (length leg2.now ≡ length leg1.now)
         × (length seconds.old ≡ length leg1.now)
         × (length thirds.old ≡ length leg1.now) }

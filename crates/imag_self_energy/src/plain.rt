@@ -70,7 +70,13 @@ pub fn plain_totals(slots: &Slots<'_>, leg1: &[f64], leg2: &[f64], totals: &mut 
     let n = slots.bands;
     let mut seconds = [NO_BAND; PLAIN_BANDS];
     let mut thirds = [NO_BAND; PLAIN_BANDS];
-    fill_bands(slots.shared, leg1, leg2, &mut seconds[..n], &mut thirds[..n]);
+    fill_bands(
+        slots.shared,
+        leg1,
+        leg2,
+        &mut seconds[..n],
+        &mut thirds[..n],
+    );
     let later = Later {
         seconds: &seconds[..n],
         thirds: &thirds[..n],

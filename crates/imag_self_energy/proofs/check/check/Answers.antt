@@ -1,6 +1,6 @@
 -- The groups of tests each gave an answer; that of the lowest number is the refusal.
 use native.Mathlib.Omega.{arith}
-use mathlib.Core.Path.{◌≡◌, refl, sym, ◌∙◌}
+use mathlib.Core.Path.{◌≡◌, refl}
 use mathlib.Core.Bool.{Bool}
 use Rattle.std.specs.Prelude.{Result, Ok}
 use Rattle.phonon.specs.declared.Measures.{Measures}

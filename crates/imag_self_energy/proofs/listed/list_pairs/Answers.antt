@@ -1,12 +1,11 @@
 -- After k columns, and j pairs of column k, the list has those that both exceed the cutoff.
-use mathlib.Core.Path.{◌≡◌, refl, sym, ◌∙◌}
+use mathlib.Core.Path.{◌≡◌, sym, ◌∙◌}
 use native.Mathlib.Omega.{arith}
 use native.Mathlib.Nat.{add-mul, one-mul}
 use lib.ListN.{length, length-set}
-use Rattle.phonon.specs.Number.{fold}
 use Rattle.phonon.proofs.Laws.{fold_step}
 use Rattle.imag_self_energy.specs.Lists.{pair_column, pair_walk}
-use Rattle.imag_self_energy.proofs.ListLaws.{listed_none, listed_same, gain_most, pair_turn, Room, room_of}
+use Rattle.imag_self_energy.proofs.ListLaws.{listed_same, gain_most, pair_turn, Room, room_of}
 use Rattle.imag_self_energy.proofs.listed.list_pairs.Goals as goal
 use Rattle.imag_self_energy.proofs.listed.list_pairs.Goals.{In-loop-j}
 

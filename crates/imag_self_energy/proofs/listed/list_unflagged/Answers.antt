@@ -1,10 +1,9 @@
 -- After i turns both lists have what is unflagged of the first i pairs.
-use mathlib.Core.Path.{◌≡◌, refl}
+use mathlib.Core.Path.{◌≡◌}
 use native.Mathlib.Omega.{arith}
 use lib.ListN.{length, length-set}
-use Rattle.phonon.specs.Number.{fold}
 use Rattle.imag_self_energy.specs.Lists.{unflagged_walk}
-use Rattle.imag_self_energy.proofs.ListLaws.{listed_none, gain_most, unflagged_turn}
+use Rattle.imag_self_energy.proofs.ListLaws.{gain_most, unflagged_turn}
 use Rattle.imag_self_energy.proofs.listed.list_unflagged.Goals as goal
 
 pub loop-x-preserved : goal.loop-x-preserved

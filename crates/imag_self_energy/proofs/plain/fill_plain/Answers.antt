@@ -3,8 +3,7 @@ use Prim.Native.Nat.{◌<◌}
 use mathlib.Core.Path.{◌≡◌, refl, ◌∙◌}
 use native.Mathlib.Omega.{arith}
 use lib.ListN.{length, length-set}
-use Rattle.phonon.specs.Number.{fold}
-use Rattle.imag_self_energy.specs.Bands.{slot_step, column_sum}
+use Rattle.imag_self_energy.specs.Bands.{column_sum}
 use Rattle.imag_self_energy.proofs.Laws.{sized_within, turn, at_end, filled_step, filled_table}
 use Rattle.imag_self_energy.proofs.SlotLaws.{SlotWithin, slot_within, whole}
 use Rattle.imag_self_energy.proofs.plain.fill_plain.Goals as goal
@@ -14,7 +13,7 @@ use Rattle.imag_self_energy.proofs.plain.fill_plain.Goals.{In-loop-j}
 entry :
     (c : In-loop-j)
     → SlotWithin c.args.slots.now.bands c.block-c.result c.loop-b.b c.loop-j.j c.loop-k.k
-        c.args.slots.now.flags.now c.args.slots.now.first.now c.args.slots.now.second.now c.args.slots.now.strengths.now
+    c.args.slots.now.flags.now c.args.slots.now.first.now c.args.slots.now.second.now c.args.slots.now.strengths.now
 entry c = slot_within (omega arith) (omega (arith, c.args.later.now.alike)) (sized_within _ c.block-c.ensures (omega arith) c.args.slots.now.sized)
 
 pub overflow_mul-o : goal.overflow_mul-o
