@@ -101,7 +101,7 @@ fn fill_factors(later: &Later<'_>, factors: &mut [Factor])
 }
 
 // Above temperature 0: the listed slots of a block, of first weights x, second weights y and strengths v.
-#[tactic(auto, using(crate::proofs::Laws::turn), unfolding(crate::specs::Lists::warm_term, phonon::specs::Number::fold))]
+#[tactic(auto, unfolding(phonon::specs::Number::fold))]
 fn sum_warm(weight: f64, list: &[u16], factors: &[Factor], x: &[f64], y: &[f64], v: &[f64]) -> f64
     requires { Places (length v.now) list.now (length list.now)
         × (length v.now ≤ length factors.now)
