@@ -3,24 +3,23 @@ use Prim.Native.Nat.{ℕ, ◌+◌, ◌*◌, ◌≤◌, ◌<◌}
 use native.Mathlib.Nat.{mul-le-mul_right}
 use native.Mathlib.Numerals.{add-one}
 use native.Mathlib.Omega.{arith}
-use mathlib.Core.Path.{◌≡◌, refl}
+use mathlib.Core.Path.{◌≡◌, refl, sym, ap, ◌∙◌}
 use mathlib.Core.Bool.{true}
 use mathlib.Core.List.{List}
 use borrow.Author.Tests.{eqb-true}
 use lib.Ieee.{Float}
+use Rattle.std.specs.Prelude.{Result, Ok}
 use lib.ListN.{length}
-use Rattle.phonon.specs.declared.Answer.{Answer}
-use Rattle.phonon.specs.declared.Answer.TheVariants.{Accepted}
+use Rattle.phonon.specs.declared.Refusal.{Refusal}
+use Rattle.phonon.specs.Answers.{number, number_of}
 use Rattle.phonon.specs.Number.{index, int}
 use Rattle.phonon.specs.Sets.{TotalsSet, measures_of}
 use Rattle.phonon.specs.ImagSelfEnergy.{totals, sum_alone}
 use Rattle.phonon.specs.Refusal.{points_ok, alone_lengths, bath_lengths, alone_tests, entries, totals_refusal}
-use Rattle.phonon.specs.Doors.{answer_for, TotalsOutcome, totals_leaves, totals_outcome}
+use Rattle.phonon.specs.Doors.{TotalsOutcome, totals_leaves, totals_outcome}
+use Rattle.phonon.proofs.Answers.{number_positive}
 use Rattle.phonon.proofs.Lowest.{none_both, passing}
 use Rattle.phonon.proofs.Accepted.{Measured, measured_facts, holds, index_below}
-use Rattle.checks.specs.declared.verdict.Checked.{Checked}
-use Rattle.checks.specs.declared.verdict.Checked.TheVariants.{Bad}
-use Rattle.checks.specs.Answers.{checked_of, answer_of}
 use Rattle.checks.proofs.AnswerLaws.{turned_back}
 use Rattle.imag_self_energy.specs.Bands.{most_bands, Sized}
 
@@ -81,12 +80,14 @@ module _ (s : TotalsSet) (e : totals_refusal s ≡ 0) where
 
   -- ---- the outcome
 
-  pub accepted : (l : List Float) → l ≡ totals (length s.totals) (sum_alone s) s.bath.temperature s.strengths
-      → ◌≡◌ {A = TotalsOutcome} (record { answer = Accepted; totals = l }) (totals_outcome s)
-  unfolding totals_outcome totals_leaves answer_for
+  pub accepted : (l : List Float) → l ≡ totals (length s.totals) (sum_alone s) s.bath.temperature s.strengths → ◌≡◌ {A = TotalsOutcome} (record { answer = 0; totals = l }) (totals_outcome s)
+  unfolding totals_outcome totals_leaves
   accepted l p = rw (e, p, facts.totals) refl
 
-pub refused : (s : TotalsSet) (a : Answer) (b : Checked) (n : ℕ) → b ≡ checked_of (totals_refusal s) (measures_of s.measures) → b ≡ Bad n → a ≡ answer_of b
-    → ◌≡◌ {A = TotalsOutcome} (record { answer = a; totals = s.totals }) (totals_outcome s)
+-- a check that answers Ok is of a set that is not refused
+pub passes : {a : Result Unit Refusal} {x : Unit} {r : ℕ} → number_of a ≡ r → a ≡ Ok x → r ≡ 0
+passes n p = sym n ∙ ap number_of p
+
+pub refused : (s : TotalsSet) (r : Refusal) → number r ≡ totals_refusal s → ◌≡◌ {A = TotalsOutcome} (record { answer = number r; totals = s.totals }) (totals_outcome s)
 unfolding totals_outcome totals_leaves
-refused s = turned_back (λ r. totals_leaves r s) (λ a. record { answer = a; totals = s.totals }) (λ n. refl) (totals_refusal s) (measures_of s.measures)
+refused s r e = turned_back (λ n. totals_leaves n s) (λ n. record { answer = n; totals = s.totals }) (λ n. refl) (number_positive r) e

@@ -4,12 +4,13 @@ use native.Mathlib.Nat.{mul-le-mul_right, mul_assoc, one-mul, eq-or-lt_of_le}
 use native.Mathlib.Omega.{arith}
 use mathlib.Core.Path.{◌≡◌, refl, sym, ap, ◌∙◌}
 use mathlib.Core.Bool.{Bool, true, false, not, ◌&&◌, cond, not-not}
-use mathlib.Core.List.{List, [], ◌∷◌, map}
-use mathlib.Core.Logic.{◌⊎◌, ⊎_elim}
+use mathlib.Core.List.{List, [], ◌∷◌, ◌++◌, map}
+use mathlib.Core.Logic.{⊎_elim}
 use lib.Dec.{eqb}
 use lib.Ieee.{Float, nan, lt}
-use lib.ListN.{get_or, length, set, length-set}
-use lib.Seq.{get_or-set_same, get_or-set_other, ext_get_or}
+use lib.ListN.{get_or, length, set, length-set, take}
+use Rattle.std.proofs.lemmas.List.{length-map}
+use lib.Seq.{take-append_seam, get_or-set_same, get_or-set_other, ext_get_or}
 use Rattle.phonon.specs.declared.Band.{Band}
 use Rattle.phonon.specs.declared.Weights.{Weights}
 use Rattle.phonon.specs.declared.Weights.TheVariants.{PerSlot, AtFrequencyPoint}
@@ -67,20 +68,15 @@ filled_step {A} {l} {n} {f} x w h e =
           (eq-or-lt_of_le {n = i} {m = n} (omega arith));
     }
 
--- the last is written again
-filled_again : {l : List Float} {n : ℕ} {f : ℕ → Float} (x : Float) → Filled l (n + 1) f → n < length l → x ≡ f n → Filled (set l n x) (n + 1) f
-filled_again {l} {n} {f} x w h e = let before : Filled l n f = record { filled = λ i p d. w.filled i (omega arith) d } in filled_step x before h e
+pub filled_less : {A : Type 0} {l : List A} {n : ℕ} {f : ℕ → A} (m : ℕ) → m ≤ n → Filled l n f → Filled l m f
+filled_less m h w = record { filled = λ i p d. w.filled i (omega arith) d }
 
 -- two turns, or the same one twice
-pub filled_two : {l : List Float} {b e : ℕ} {f : ℕ → Float} (x y : Float) → Filled l b f → b < length l → e < length l → x ≡ f b → y ≡ f e → (e ≡ b) ⊎ (e ≡ b + 1)
+pub filled_two : {l : List Float} {b e : ℕ} {f : ℕ → Float} (x y : Float) → Filled l b f → b < length l → e < length l → x ≡ f b → y ≡ f e → b ≤ e → e ≤ b + 1
     → Filled (set (set l b x) e y) (e + 1) f
-filled_two {l} {b} {e} {f} x y w h p u v o =
+filled_two {l} {b} {e} {f} x y w h p u v o q =
     let s = length-set l b x in
-    let one = filled_step x w h u in
-    ⊎_elim
-    (λ (q : e ≡ b). rw q (filled_again y one (omega arith) (v ∙ ap f q)))
-    (λ (q : e ≡ b + 1). rw q (filled_step y one (omega arith) (v ∙ ap f q)))
-    o
+    filled_step y (filled_less e q (filled_step x w h u)) (omega arith) v
 
 -- a list that is filled whole is the table
 pub filled_table : {l : List Float} {n : ℕ} {f : ℕ → Float} → length l ≡ n → Filled l n f → l ≡ table n f
@@ -144,6 +140,29 @@ both_step {h} w l e f =
       third = filled_step _ w.third (omega arith) (band_made h _ _ f);
     }
 
+-- a leg's bands, all held
+held_whole : (h : Shared) (leg : List Float) {bands : List Band} → length bands ≡ length leg → Held h leg (length leg) bands → bands ≡ leg_bands h leg
+unfolding leg_bands
+held_whole h leg {bands} e w =
+    ext_get_or (record { frequency = nan; occupation = nan }) bands (leg_bands h leg) (simp length-map e)
+    (λ i p. let q : i < length leg = omega arith in w.filled i q _ ∙ sym ((leg_held h leg refl).filled i q _))
+
+pub both_whole : {h : Shared} {leg1 leg2 : List Float} {seconds thirds : List Band} → length leg2 ≡ length leg1 → BothHeld h leg1 leg2 (length leg1) (length leg1) seconds thirds
+    → (seconds ≡ leg_bands h leg1) × (thirds ≡ leg_bands h leg2)
+both_whole {h} {leg1} {leg2} e w = (held_whole h leg1 w.room2 w.second, held_whole h leg2 (w.room3 ∙ sym e) (rw e w.third))
+
+leg_length : (h : Shared) (leg : List Float) → length (leg_bands h leg) ≡ length leg
+unfolding leg_bands
+leg_length h leg = length-map leg (band_of h)
+
+-- at the front of an array of bands
+pub front_bands : (h : Shared) {n : ℕ} (leg : List Float) {bands : List Band} (rest : List Band) → bands ≡ leg_bands h leg → length leg ≡ n → take n (bands ++ rest) ≡ leg_bands h leg
+front_bands h {n} leg rest e l =
+    let whole : length (leg_bands h leg) ≡ n = leg_length h leg ∙ l in rw (e, ← whole) (take-append_seam (leg_bands h leg) rest)
+
+pub front_length : (h : Shared) {n : ℕ} (leg : List Float) {bands : List Band} → bands ≡ leg_bands h leg → length leg ≡ n → length bands ≡ n
+front_length h leg e l = ap length e ∙ leg_length h leg ∙ l
+
 -- ---- loops that sum
 
 -- a turn of a counting loop, which makes r of x
@@ -177,17 +196,6 @@ slot_is s t g f h x y v u = rw not-not (by (eqb g 0) (lt s.cutoff f) (lt s.cutof
     by true true true = refl
 
 -- ---- the total
-
--- arrays that hold the bands of both legs make the same totals as the bands
-pub both_totals : (h : Shared) (leg1 leg2 : List Float) {m n : ℕ} {seconds thirds : List Band} → BothHeld h leg1 leg2 m n seconds thirds → length leg1 ≡ n → length leg2 ≡ n
-    → (F : ℕ) (w : Weights) (g : List ℕ) (x y v : List Float)
-    → table F (λ b. band_total h n (block w b) b seconds thirds g x y v) ≡ table F (λ b. band_total h n (block w b) b (leg_bands h leg1) (leg_bands h leg2) g x y v)
-unfolding band_total column_sum slot_step
-both_totals h leg1 leg2 {m} {n} r p q F w g x y v =
-    table_ext F _ _
-    (λ b l. fold_ext n f0 _ _
-    (λ k pk u. fold_ext n u _ _
-    (λ j pj a. rw (r.second.filled j pj _, r.third.filled k pk _, (leg_held h leg1 p).filled j pj _, (leg_held h leg2 q).filled k pk _) refl)))
 
 -- the bands of the definition's frequencies make its totals
 total_is : (s : Sum) (t : Float) (v : List Float) (seconds thirds : List Band)

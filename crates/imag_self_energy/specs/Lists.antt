@@ -1,10 +1,12 @@
 -- Lists of places, and the sum over one: pair (j, k) of n bands has place j * n + k, and a block has area = n * n places.
 use Rattle.std.specs.Prelude.{ℕ, ◌+◌, ◌*◌, ◌<◌, ◌≤◌, ◌≡◌, ◌&&◌, cond, List, eqb, Float, get_or, length}
 use Rattle.std.specs.Float.Ieee.{lt}
+use Rattle.std.specs.Float.{nan}
 use Rattle.phonon.specs.declared.Band.{Band}
 use Rattle.phonon.specs.Number.{◌⊕◌, ◌⊖◌, ◌⊗◌, f0, f1, at, fold}
 use Rattle.phonon.specs.Sets.{part}
 use Rattle.imag_self_energy.specs.declared.Shared.{Shared}
+use Rattle.imag_self_energy.specs.declared.listed.Factor.{Factor}
 use Rattle.imag_self_energy.specs.Bands.{band_at}
 
 -- the first m numbers of a list are places
@@ -35,32 +37,34 @@ unflagged_step area c flags pairs g i sum =
 unfoldable pub unflagged_walk : ℕ → ℕ → List ℕ → List ℕ → ℕ → Float → (ℕ → Float → Float) → Float
 unflagged_walk area c flags pairs count z g = fold count z (unflagged_step area c flags pairs g)
 
--- the factors of the two weights of a pair
-abbrev pub sum_of : List Band → List Band → ℕ → ℕ → Float
-sum_of seconds thirds j k = (band_at seconds j).occupation ⊕ (band_at thirds k).occupation ⊕ f1
+-- the factors of the two weights of a pair, and entry i of an array of them
+abbrev pub factor_of : List Band → List Band → ℕ → ℕ → Factor
+factor_of seconds thirds j k = record {
+  sum = (band_at seconds j).occupation ⊕ (band_at thirds k).occupation ⊕ f1;
+  difference = (band_at seconds j).occupation ⊖ (band_at thirds k).occupation;
+}
 
-abbrev pub difference_of : List Band → List Band → ℕ → ℕ → Float
-difference_of seconds thirds j k = (band_at seconds j).occupation ⊖ (band_at thirds k).occupation
+abbrev pub factor_at : List Factor → ℕ → Factor
+factor_at l i = get_or l i (record { sum = nan; difference = nan })
 
-pub record Factors (n : ℕ) (seconds thirds : List Band) (sums differences : List Float) : Type 0 where
-  pub sum : (j k : ℕ) → j < n → k < n → at sums (j * n + k) ≡ sum_of seconds thirds j k
-  pub difference : (j k : ℕ) → j < n → k < n → at differences (j * n + k) ≡ difference_of seconds thirds j k
+pub record Factors (n : ℕ) (seconds thirds : List Band) (factors : List Factor) : Type 0 where
+  pub factor : (j k : ℕ) → j < n → k < n → factor_at factors (j * n + k) ≡ factor_of seconds thirds j k
 
 -- what the slot at place o of a block adds: x and y are the block's weights, v its strengths
-unfoldable pub warm_term : Float → List Float → List Float → List Float → List Float → List Float → ℕ → Float
-warm_term weight sums differences x y v o = (at sums o ⊗ at x o ⊕ at differences o ⊗ at y o) ⊗ at v o ⊗ weight
+unfoldable pub warm_term : Float → List Factor → List Float → List Float → List Float → ℕ → Float
+warm_term weight factors x y v o = ((factor_at factors o).sum ⊗ at x o ⊕ (factor_at factors o).difference ⊗ at y o) ⊗ at v o ⊗ weight
 
 unfoldable pub cold_term : Float → List Float → List Float → ℕ → Float
 cold_term weight x v o = at x o ⊗ at v o ⊗ weight
 
 -- with block c of the weights, and block b of the strengths
-unfoldable pub place_term : Shared → List Float → List Float → ℕ → ℕ → List Float → List Float → ℕ → List Float → ℕ → Float
-place_term h sums differences area c x y b v o =
+unfoldable pub place_term : Shared → List Factor → ℕ → ℕ → List Float → List Float → ℕ → List Float → ℕ → Float
+place_term h factors area c x y b v o =
     cond (lt f0 h.temperature)
-    (warm_term h.weight sums differences (part area c x) (part area c y) (part area b v) o)
+    (warm_term h.weight factors (part area c x) (part area c y) (part area b v) o)
     (cold_term h.weight (part area c x) (part area b v) o)
 
 -- the total of position b, from the pairs listed and block c of the flags
-unfoldable pub pair_total : Shared → ℕ → ℕ → List ℕ → List ℕ → List Float → List Float → List Float → List Float → List Float → ℕ → ℕ → Float
-pair_total h area count pairs flags x y v sums differences c b =
-    unflagged_walk area c flags pairs count f0 (λ o t. t ⊕ place_term h sums differences area c x y b v o)
+unfoldable pub pair_total : Shared → ℕ → ℕ → List ℕ → List ℕ → List Float → List Float → List Float → List Factor → ℕ → ℕ → Float
+pair_total h area count pairs flags x y v factors c b =
+    unflagged_walk area c flags pairs count f0 (λ o t. t ⊕ place_term h factors area c x y b v o)

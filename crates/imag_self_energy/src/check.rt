@@ -1,18 +1,18 @@
 // The tests of totals alone: those of its own slices, and the groups that it shares with the other doors.
 ghost use Rattle.std.specs.Prelude.{◌≡◌, true, ◌≤◌};
-ghost use Rattle.phonon.specs.Sets as Sets;
+ghost use Rattle.phonon.specs.Answers.{number_of};
 ghost use Rattle.phonon.specs.Limits.{entries_of};
 ghost use Rattle.phonon.specs.Refusal.{measures_ok, lowest, alone_tests, totals_refusal};
-ghost use Rattle.checks.specs.Answers.{checked_of};
 ghost use Rattle.imag_self_energy.specs.Bands.{most_bands};
 
-use checks::groups::{bath_number, points_number};
+use checks::groups::{check_bath, check_points};
 use checks::measures::measures_ok;
 use checks::values::cutoff_ok;
-use checks::verdict::{Checked, checked_of, lower_of};
-use phonon::{Bath, Measures, TotalsMeasures, Weights};
+use checks::verdict::{lower_of, require};
+use phonon::{Bath, IntegrationWeights, Measures, Refusal, TotalsMeasures, Weights};
 
 // How many flags, first and second weights there are, of so many first bands and bands.
+#[tactic(auto, unfolding(phonon::specs::Limits::entries_of))]
 fn entries_of(weights: Weights, first: usize, bands: usize) -> usize
     requires { (first ≤ most_bands) × (bands ≤ most_bands) }
     ensures { result ≡ entries_of weights first bands }
@@ -23,39 +23,32 @@ fn entries_of(weights: Weights, first: usize, bands: usize) -> usize
     }
 }
 
-// 2, 4 and 7 of what totals alone has in place of the tables, with flags of n entries: the lowest number that fails, or 0.
-// The measures have been checked before.
-fn alone_number(
+// 2, 4 and 7 of what totals alone has in place of the tables, with flags of n entries. The measures have been checked
+// before.
+fn check_alone(
     m: Measures,
     n: usize,
     frequencies: &[f64],
     cutoff: f64,
     flags: &[u8],
     strengths: &[f64],
-) -> u8
+) -> Result<(), Refusal>
     requires { measures_ok m ≡ true }
-    ensures { result ≡ lowest (alone_tests m n frequencies.now cutoff flags.now strengths.now) }
+    ensures { number_of result ≡ lowest (alone_tests m n frequencies.now cutoff flags.now strengths.now) }
 {
     let bands = 3 * m.atoms;
     let sized = (frequencies.len() == m.grid * bands)
         & (flags.len() == n)
         & (strengths.len() == m.first * bands * bands);
-    if !sized {
-        return 2;
-    }
+    require(sized, Refusal::Length)?;
     let finite = checks::is_finite(cutoff)
         & checks::all_finite(frequencies)
         & checks::all_finite(strengths);
-    if !finite {
-        return 4;
-    }
-    if !cutoff_ok(cutoff) {
-        return 7;
-    }
-    0
+    require(finite, Refusal::NotFinite)?;
+    require(cutoff_ok(cutoff), Refusal::Cutoff)
 }
 
-// All of them. A supercell and vectors are not handed in: their measures stand at 1.
+// All of them.
 pub fn check(
     m: TotalsMeasures,
     weights: Weights,
@@ -65,38 +58,28 @@ pub fn check(
     flags: &[u8],
     strengths: &[f64],
     bath: Bath,
-    first: &[f64],
-    second: &[f64],
+    integration: IntegrationWeights<'_>,
     totals: &[f64],
-) -> Checked
-    ensures { result ≡ checked_of
-        (totals_refusal (record {
-          measures = m;
-          weights = weights;
-          triplet = triplet;
-          frequencies = frequencies.now;
-          cutoff = cutoff;
-          flags = flags.now;
-          strengths = strengths.now;
-          bath = bath;
-          first = first.now;
-          second = second.now;
-          totals = totals.now;
-        })) (Sets.measures_of m) }
+) -> Result<(), Refusal>
+    ensures { number_of result ≡ totals_refusal (record {
+      measures = m;
+      weights = weights;
+      triplet = triplet;
+      frequencies = frequencies.now;
+      cutoff = cutoff;
+      flags = flags.now;
+      strengths = strengths.now;
+      bath = bath;
+      first = integration.entry.first.now;
+      second = integration.entry.second.now;
+      totals = totals.now;
+    }) }
 {
-    let all = Measures {
-        atoms: m.atoms,
-        supercell: 1,
-        first: m.first,
-        grid: m.grid,
-        vectors: 1,
-    };
-    if !measures_ok(all) {
-        return Checked::Bad(1);
-    }
+    let all = Measures::from(m);
+    require(measures_ok(all), Refusal::Measure)?;
     let entries = entries_of(weights, m.first, 3 * m.atoms);
-    let alone = alone_number(all, entries, frequencies, cutoff, flags, strengths);
-    let points = points_number(m.grid, &triplet);
-    let rest = bath_number(entries, m.first, bath, first, second, totals.len());
-    checked_of(lower_of(alone, lower_of(points, rest)), all)
+    let alone = check_alone(all, entries, frequencies, cutoff, flags, strengths);
+    let points = check_points(m.grid, &triplet);
+    let rest = check_bath(entries, m.first, bath, integration, totals.len());
+    lower_of(alone, lower_of(points, rest))
 }

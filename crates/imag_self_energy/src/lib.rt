@@ -5,8 +5,10 @@ mod check;
 mod listed;
 mod occupations;
 mod plain;
+mod slots;
 
 ghost use Rattle.std.specs.Prelude.{◌≡◌, ◌+◌, ◌*◌, ◌≤◌, length};
+ghost use Rattle.phonon.specs.Answers.{number_of};
 ghost use Rattle.phonon.specs.Number.{index, int};
 ghost use Rattle.phonon.specs.ImagSelfEnergy as Ise;
 ghost use Rattle.phonon.specs.Doors.{TotalsOutcome, totals_outcome};
@@ -15,12 +17,13 @@ ghost use Rattle.imag_self_energy.specs.Bands.{Sized};
 use crate::check::check;
 use crate::listed::listed_totals;
 use crate::plain::plain_totals;
-use checks::verdict::{Checked, answer_of};
+use crate::slots::Slots;
 use common::float_of;
-use phonon::{Answer, Band, Bath, TotalsMeasures, Weights};
-use planes::{index_of, leg_frequencies};
+use phonon::{Band, Bath, IntegrationWeights, Refusal, TotalsMeasures, Weights};
+use planes::{index_of, part_of};
 
-// The most bands of a leg, and the places of a block of so many; and the same where few bands have lists of their own.
+// The most bands of a leg, and the places of a block of so many; and the same where few bands have lists of their own:
+// the lists and factors are cleared when they are made, which of MOST_BANDS would take as long as the sum of a few.
 const MOST_BANDS: usize = 24;
 
 const MOST_PLACES: usize = MOST_BANDS * MOST_BANDS;
@@ -33,7 +36,7 @@ const FEW_PLACES: usize = FEW_BANDS * FEW_BANDS;
 // the time of totals alone with one atom.
 const PLAIN_BANDS: usize = 6;
 
-// What an array of bands holds before it is filled.
+// What an array of bands holds before it is filled. An occupation of -1.0 is document 01's mark of a band that has none.
 const NO_BAND: Band = Band {
     frequency: 0.0,
     occupation: -1.0,
@@ -47,16 +50,6 @@ struct Shared {
     weight: f64,
 }
 
-// The first band whose block of flags and weights position b reads.
-fn block_of(weights: Weights, b: usize) -> usize
-    ensures { result ≡ Ise.block weights b }
-{
-    match weights {
-        Weights::PerSlot => b,
-        Weights::AtFrequencyPoint => 0,
-    }
-}
-
 // The totals of one triplet, of bands = B. There are as many as totals is long.
 pub fn write_totals(
     weights: Weights,
@@ -65,14 +58,12 @@ pub fn write_totals(
     frequencies: &[f64],
     cutoff: f64,
     flags: &[u8],
-    first: &[f64],
-    second: &[f64],
-    weight: i64,
-    temperature: f64,
+    integration: IntegrationWeights<'_>,
+    bath: Bath,
     strengths: &[f64],
     totals: &mut [f64],
 )
-    requires { Sized weights bands (length totals.old) flags.now first.now second.now strengths.now
+    requires { Sized weights bands (length totals.old) flags.now integration.first.now integration.second.now strengths.now
         × ((index (int triplet 1) + 1) * bands ≤ length frequencies.now)
         × ((index (int triplet 2) + 1) * bands ≤ length frequencies.now) }
     ensures { totals.new ≡ Ise.totals (length totals.old)
@@ -83,28 +74,36 @@ pub fn write_totals(
           frequencies = frequencies.now;
           cutoff = cutoff;
           flags = flags.now;
-          weight = weight;
-          first = first.now;
-          second = second.now;
-        }) temperature strengths.now }
+          weight = bath.weight;
+          first = integration.entry.first.now;
+          second = integration.entry.second.now;
+        }) bath.temperature strengths.now }
 {
     let g1 = index_of(triplet[1]);
     let g2 = index_of(triplet[2]);
-    let leg1 = leg_frequencies(frequencies, g1, bands);
-    let leg2 = leg_frequencies(frequencies, g2, bands);
-    let h = Shared {
-        temperature: temperature,
-        cutoff: cutoff,
-        weight: float_of(weight),
+    let leg1 = part_of(frequencies, g1, bands);
+    let leg2 = part_of(frequencies, g2, bands);
+    let shared = Shared {
+        temperature: bath.temperature,
+        cutoff,
+        weight: float_of(bath.weight),
+    };
+    let slots = Slots {
+        shared,
+        weights,
+        positions: totals.len(),
+        bands,
+        flags,
+        first: integration.first,
+        second: integration.second,
+        strengths,
     };
     if bands <= PLAIN_BANDS {
-        plain_totals(
-            h, weights, bands, leg1, leg2, flags, first, second, strengths, totals,
-        );
+        plain_totals(&slots, leg1, leg2, totals);
+    } else if bands <= FEW_BANDS {
+        listed_totals::<FEW_BANDS, FEW_PLACES>(&slots, leg1, leg2, totals);
     } else {
-        listed_totals(
-            h, weights, bands, leg1, leg2, flags, first, second, strengths, totals,
-        );
+        listed_totals::<MOST_BANDS, MOST_PLACES>(&slots, leg1, leg2, totals);
     }
 }
 
@@ -118,11 +117,10 @@ pub fn imag_self_energy_at_triplet(
     flags: &[u8],
     strengths: &[f64],
     bath: Bath,
-    first: &[f64],
-    second: &[f64],
+    integration: IntegrationWeights<'_>,
     totals: &mut [f64],
-) -> Answer
-    ensures { ◌≡◌ {A = TotalsOutcome} (record { answer = result; totals = totals.new })
+) -> Result<(), Refusal>
+    ensures { ◌≡◌ {A = TotalsOutcome} (record { answer = number_of result; totals = totals.new })
         (totals_outcome (record {
           measures = m;
           weights = weights;
@@ -132,12 +130,12 @@ pub fn imag_self_energy_at_triplet(
           flags = flags.now;
           strengths = strengths.now;
           bath = bath;
-          first = first.now;
-          second = second.now;
+          first = integration.entry.first.now;
+          second = integration.entry.second.now;
           totals = totals.old;
         })) }
 {
-    let checked = check(
+    check(
         m,
         weights,
         triplet,
@@ -146,13 +144,9 @@ pub fn imag_self_energy_at_triplet(
         flags,
         strengths,
         bath,
-        first,
-        second,
+        integration,
         totals,
-    );
-    let Checked::Good(m) = checked else {
-        return answer_of(checked);
-    };
+    )?;
     write_totals(
         weights,
         3 * m.atoms,
@@ -160,12 +154,10 @@ pub fn imag_self_energy_at_triplet(
         frequencies,
         cutoff,
         flags,
-        first,
-        second,
-        bath.weight,
-        bath.temperature,
+        integration,
+        bath,
         strengths,
         totals,
     );
-    Answer::Accepted
+    Ok(())
 }

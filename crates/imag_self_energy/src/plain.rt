@@ -1,14 +1,15 @@
 // The totals slot by slot, in listing order, k and then j: of a few bands this is done before lists are made.
 ghost use Rattle.std.specs.Prelude.{◌≡◌, ◌≤◌, length};
-ghost use Rattle.phonon.specs.Number.{table};
-ghost use Rattle.phonon.specs.ImagSelfEnergy.{block};
-ghost use Rattle.imag_self_energy.specs.Bands.{plain_bands, leg_bands, add_slot, band_total, Sized};
+ghost use Rattle.imag_self_energy.specs.Bands.{plain_bands, leg_bands, add_slot};
+ghost use Rattle.imag_self_energy.specs.Totals.{band_totals};
 
-use crate::occupations::occupations;
-use crate::{NO_BAND, PLAIN_BANDS, Shared, block_of};
-use phonon::{Band, Weights};
+use crate::occupations::fill_bands;
+use crate::slots::{Later, Slots};
+use crate::{NO_BAND, PLAIN_BANDS, Shared};
+use phonon::Band;
 
 // One slot, if it counts: p and q are its later bands, x and y its weights, v its strength.
+#[tactic(auto, unfolding(crate::specs::Bands::add_slot, phonon::specs::ImagSelfEnergy::contribution))]
 fn add_slot(sum: f64, h: Shared, flag: u8, p: Band, q: Band, x: f64, y: f64, v: f64) -> f64
     ensures { result ≡ add_slot h flag p q x y v sum }
 {
@@ -24,85 +25,61 @@ fn add_slot(sum: f64, h: Shared, flag: u8, p: Band, q: Band, x: f64, y: f64, v: 
 }
 
 // The totals of all positions.
-fn fill_plain(
-    h: Shared,
-    weights: Weights,
-    n: usize,
-    seconds: [Band; PLAIN_BANDS],
-    thirds: [Band; PLAIN_BANDS],
-    flags: &[u8],
-    first: &[f64],
-    second: &[f64],
-    strengths: &[f64],
-    totals: &mut [f64],
-)
-    requires { (n ≤ plain_bands)
-        × Sized weights n (length totals.old) flags.now first.now second.now strengths.now }
-    ensures { totals.new ≡ table (length totals.old)
-        (λ b. band_total h n (block weights b) b seconds thirds flags.now first.now second.now
-        strengths.now) }
+#[tactic(auto, using(crate::proofs::Laws::turn), unfolding(crate::specs::Bands::slot_step, phonon::specs::Number::fold))]
+fn fill_plain(slots: &Slots<'_>, later: &Later<'_>, totals: &mut [f64])
+    requires { (length totals.old ≡ slots.now.positions) × (length later.now.seconds.now ≡ slots.now.bands) }
+    ensures { totals.new ≡ band_totals slots.now later.now.seconds.now later.now.thirds.now }
 {
-    for b in 0..totals.len() {
-        let c = block_of(weights, b);
+    let h = slots.shared;
+    let n = slots.bands;
+    let flags = slots.flags;
+    let first = slots.first;
+    let second = slots.second;
+    let strengths = slots.strengths;
+    for (b, place) in totals.iter_mut().enumerate() {
+        let c = slots.block(b);
         let mut total = 0.0;
-        for k in 0..n {
-            let q = thirds[k];
-            for j in 0..n {
-                let p = (c * n + j) * n + k;
+        for (k, q) in later.thirds.iter().enumerate() {
+            for (j, p) in later.seconds.iter().enumerate() {
+                let o = (c * n + j) * n + k;
                 let s = (b * n + j) * n + k;
                 total = add_slot(
                     total,
                     h,
-                    flags[p],
-                    seconds[j],
-                    q,
-                    first[p],
-                    second[p],
+                    flags[o],
+                    *p,
+                    *q,
+                    first[o],
+                    second[o],
                     strengths[s],
                 );
             }
         }
-        totals[b] = total;
+        *place = total;
     }
 }
 
-// From the frequencies of the later legs, of n bands each.
-pub fn plain_totals(
-    h: Shared,
-    weights: Weights,
-    n: usize,
-    leg1: &[f64],
-    leg2: &[f64],
-    flags: &[u8],
-    first: &[f64],
-    second: &[f64],
-    strengths: &[f64],
-    totals: &mut [f64],
-)
-    requires { (n ≤ plain_bands)
-        × Sized weights n (length totals.old) flags.now first.now second.now strengths.now
-        × (length leg1.now ≡ n)
-        × (length leg2.now ≡ n) }
-    ensures { totals.new ≡ table (length totals.old)
-        (λ b. band_total h n (block weights b) b (leg_bands h leg1.now) (leg_bands h leg2.now)
-        flags.now first.now second.now strengths.now) }
+// From the frequencies of the later legs.
+pub fn plain_totals(slots: &Slots<'_>, leg1: &[f64], leg2: &[f64], totals: &mut [f64])
+    requires { (length totals.old ≡ slots.now.positions)
+        × (slots.now.bands ≤ plain_bands)
+        × (length leg1.now ≡ slots.now.bands)
+        × (length leg2.now ≡ slots.now.bands) }
+    ensures { totals.new ≡ band_totals slots.now (leg_bands slots.now.shared leg1.now) (leg_bands slots.now.shared leg2.now) }
 {
+    let n = slots.bands;
     let mut seconds = [NO_BAND; PLAIN_BANDS];
     let mut thirds = [NO_BAND; PLAIN_BANDS];
-    for j in 0..n {
-        let f = leg1[j];
-        let g = leg2[j];
-        let o = occupations(h.temperature, h.cutoff, f, g);
-        seconds[j] = Band {
-            frequency: f,
-            occupation: o.one,
-        };
-        thirds[j] = Band {
-            frequency: g,
-            occupation: o.two,
-        };
-    }
-    fill_plain(
-        h, weights, n, seconds, thirds, flags, first, second, strengths, totals,
+    fill_bands(
+        slots.shared,
+        leg1,
+        leg2,
+        &mut seconds[..n],
+        &mut thirds[..n],
     );
+    let later = Later {
+        seconds: &seconds[..n],
+        thirds: &thirds[..n],
+    };
+    fill_plain(slots, &later, totals);
 }

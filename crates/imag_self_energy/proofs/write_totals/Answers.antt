@@ -22,9 +22,9 @@ read c =
       frequencies = c.args.frequencies.now;
       cutoff = c.args.cutoff;
       flags = c.args.flags.now;
-      weight = c.args.weight;
-      first = c.args.first.now;
-      second = c.args.second.now;
+      weight = c.args.bath.weight;
+      first = c.args.integration.first.now;
+      second = c.args.integration.second.now;
     }
 
 -- the grid points as numbers
@@ -36,17 +36,17 @@ point2 c = rw (to_z-of_z w64 (int c.args.triplet 2) (search rules)) at c.index_o
 
 -- what all slots share
 abbrev shared : After-float_of → Shared
-shared c = record { temperature = c.args.temperature; cutoff = c.args.cutoff; weight = c.float_of.result }
+shared c = record { temperature = c.args.bath.temperature; cutoff = c.args.cutoff; weight = c.float_of.result }
 
 -- from the bands of the legs to the definition
 legs_told :
     (c : After-float_of)
     → table (length c.args.totals.now)
-    (λ b. band_total (shared c) c.args.bands (block c.args.weights b) b (leg_bands (shared c) c.leg_frequencies-leg1.result.now) (leg_bands (shared c) c.leg_frequencies-leg2.result.now) c.args.flags.now c.args.first.now c.args.second.now c.args.strengths.now)
-    ≡ totals (length c.args.totals.now) (read c) c.args.temperature c.args.strengths.now
+    (λ b. band_total (shared c) c.args.bands (block c.args.weights b) b (leg_bands (shared c) c.part_of-leg1.result.now) (leg_bands (shared c) c.part_of-leg2.result.now) c.args.flags.now c.args.integration.first.now c.args.integration.second.now c.args.strengths.now)
+    ≡ totals (length c.args.totals.now) (read c) c.args.bath.temperature c.args.strengths.now
 legs_told c =
-    let one = c.leg_frequencies-leg1.ensures in
-    let two = c.leg_frequencies-leg2.ensures in
+    let one = c.part_of-leg1.ensures in
+    let two = c.part_of-leg2.ensures in
     totals_are (read c) _ _ _ _
     (rw (point1 c) at one.0) one.1
     (rw (point2 c) at two.0) two.1
@@ -55,5 +55,8 @@ legs_told c =
 pub returns-then-bands-le-PLAIN_BANDS : goal.returns-then-bands-le-PLAIN_BANDS
 returns-then-bands-le-PLAIN_BANDS c = c.plain_totals.ensures ∙ legs_told (goal.at.returns-then-bands-le-PLAIN_BANDS c).After-float_of
 
-pub returns-else-bands-le-PLAIN_BANDS : goal.returns-else-bands-le-PLAIN_BANDS
-returns-else-bands-le-PLAIN_BANDS c = c.listed_totals.ensures ∙ legs_told (goal.at.returns-else-bands-le-PLAIN_BANDS c).After-float_of
+pub returns-then-bands-le-FEW_BANDS : goal.returns-then-bands-le-FEW_BANDS
+returns-then-bands-le-FEW_BANDS c = c.listed_totals.ensures ∙ legs_told (goal.at.returns-then-bands-le-FEW_BANDS c).After-float_of
+
+pub returns-else-bands-le-FEW_BANDS : goal.returns-else-bands-le-FEW_BANDS
+returns-else-bands-le-FEW_BANDS c = c.listed_totals-else-bands-le-FEW_BANDS.ensures ∙ legs_told (goal.at.returns-else-bands-le-FEW_BANDS c).After-float_of

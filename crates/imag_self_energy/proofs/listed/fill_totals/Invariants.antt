@@ -1,5 +1,5 @@
 -- Two totals a turn: each is the sum over its list, which is the walk over the pairs that are unflagged.
-use Prim.Native.Nat.{◌-◌, ◌≤◌}
+use Prim.Native.Nat.{◌≤◌}
 use mathlib.Core.Path.{◌≡◌}
 use lib.ListN.{length}
 use Rattle.phonon.specs.ImagSelfEnergy.{block}
@@ -13,7 +13,4 @@ invariant-loop-b l =
     × (length l.one ≡ length l.initial.one)
     × (length l.two ≡ length l.initial.two)
     × (length l.totals ≡ length l.initial.totals)
-    × Filled l.totals l.b (λ i. pair_total l.h l.area l.count l.pairs l.flags l.first l.second l.strengths l.sums l.differences (block l.weights i) i)
-
-abbrev pub decreases-loop-b : goal.decreases-loop-b
-decreases-loop-b l = length l.totals - l.b
+    × Filled l.totals l.b (λ i. pair_total l.slots.shared l.area (length l.pairs) l.pairs l.slots.flags.now l.slots.first.now l.slots.second.now l.slots.strengths.now l.factors (block l.slots.weights i) i)

@@ -11,7 +11,7 @@ invariant-loop-j l =
     (l.j ≤ l.n)
     × (l.m ≤ l.k * l.n + l.j)
     × (length l.pairs ≡ length l.initial.pairs)
-    × Listed (l.n * l.n) (λ z g. fold l.j (fold l.k z (pair_column l.cutoff l.n l.seconds l.thirds g)) (pair_step l.cutoff l.n l.seconds g l.k l.q)) l.pairs l.m
+    × Listed (l.n * l.n) (λ z g. fold l.j (fold l.k z (pair_column l.cutoff l.n l.later.seconds.now l.later.thirds.now g)) (pair_step l.cutoff l.n l.later.seconds.now g l.k l.q)) l.pairs l.m
 
 abbrev pub invariant-loop-k : goal.invariant-loop-k
-invariant-loop-k l = (l.k ≤ l.n) × (l.m ≤ l.k * l.n) × (length l.pairs ≡ length l.initial.pairs) × Listed (l.n * l.n) (λ z g. fold l.k z (pair_column l.cutoff l.n l.seconds l.thirds g)) l.pairs l.m
+invariant-loop-k l = (l.k ≤ l.n) × (l.m ≤ l.k * l.n) × (length l.pairs ≡ length l.initial.pairs) × Listed (l.n * l.n) (λ z g. fold l.k z (pair_column l.cutoff l.n l.later.seconds.now l.later.thirds.now g)) l.pairs l.m

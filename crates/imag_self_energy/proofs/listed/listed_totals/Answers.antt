@@ -1,21 +1,12 @@
--- After j turns the first j bands of both later legs are held, as in plain_totals.
-use Prim.Native.Nat.{◌≤◌}
-use mathlib.Core.Path.{◌≡◌, ◌∙◌}
-use native.Mathlib.Omega.{arith}
-use Rattle.imag_self_energy.specs.Bands.{most_bands}
-use Rattle.imag_self_energy.proofs.Laws.{both_step, both_totals}
+-- The bands that are held are those of the legs, and the walks over the pairs that are listed are the totals.
+use mathlib.Core.Path.{refl, ◌∙◌}
+use Rattle.imag_self_energy.proofs.Laws.{front_bands, front_length}
+use Rattle.imag_self_energy.proofs.ListLaws.{listed_totals_are}
 use Rattle.imag_self_energy.proofs.listed.listed_totals.Goals as goal
-use Rattle.imag_self_energy.proofs.listed.listed_totals.Goals.{After-occupations-o}
-
--- in a turn there is room for one band more
-few : (c : After-occupations-o) → c.args.n ≤ most_bands
-few c = c.requires.0.few
-
-pub loop-j-preserved : goal.loop-j-preserved
-loop-j-preserved c = (omega arith, both_step c.loop-j.invariant.1 (omega (arith, few (goal.at.loop-j-preserved c).After-occupations-o)) c.occupations-o.ensures.0 c.occupations-o.ensures.1)
 
 pub returns : goal.returns
-returns c =
-    let l = c.loop-j in
-    let all : l.j ≡ c.args.n = omega arith in
-    c.fill_lists.ensures ∙ both_totals _ _ _ (rw all at l.invariant.1) c.requires.1 c.requires.2 _ _ _ _ _ _
+returns g c =
+    let b = c.fill_bands.ensures in
+    let one = front_bands _ _ _ b.0 c.requires.5 in
+    listed_totals_are c.args.slots.now _ _ _ _ _ (front_length _ _ one c.requires.5) c.requires.0 c.list_pairs-count.ensures.1 c.fill_factors.ensures c.fill_totals.ensures
+    ∙ rw (one, front_bands _ _ _ b.1 c.requires.6) refl

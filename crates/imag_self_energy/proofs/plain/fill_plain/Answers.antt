@@ -3,8 +3,7 @@ use Prim.Native.Nat.{◌<◌}
 use mathlib.Core.Path.{◌≡◌, refl, ◌∙◌}
 use native.Mathlib.Omega.{arith}
 use lib.ListN.{length, length-set}
-use Rattle.phonon.specs.Number.{fold}
-use Rattle.imag_self_energy.specs.Bands.{slot_step, column_sum}
+use Rattle.imag_self_energy.specs.Bands.{column_sum}
 use Rattle.imag_self_energy.proofs.Laws.{sized_within, turn, at_end, filled_step, filled_table}
 use Rattle.imag_self_energy.proofs.SlotLaws.{SlotWithin, slot_within, whole}
 use Rattle.imag_self_energy.proofs.plain.fill_plain.Goals as goal
@@ -13,43 +12,36 @@ use Rattle.imag_self_energy.proofs.plain.fill_plain.Goals.{In-loop-j}
 -- slot (b, j, k) lies in each slice
 entry :
     (c : In-loop-j)
-    → SlotWithin c.args.n c.block_of-c.result c.loop-b.b c.loop-j.j c.loop-k.k c.args.flags.now c.args.first.now c.args.second.now c.args.strengths.now
-entry c = slot_within c.loop-j-test.true c.loop-k-test.true (sized_within _ c.block_of-c.ensures c.loop-b-test.true c.requires.1)
+    → SlotWithin c.args.slots.now.bands c.block-c.result c.loop-b.b c.loop-j.j c.loop-k.k
+    c.args.slots.now.flags.now c.args.slots.now.first.now c.args.slots.now.second.now c.args.slots.now.strengths.now
+entry c = slot_within (omega arith) (omega (arith, c.args.later.now.alike)) (sized_within _ c.block-c.ensures (omega arith) c.args.slots.now.sized)
 
-pub loop-k-init : goal.loop-k-init
-unfolding fold
-loop-k-init c = (omega arith, refl)
+pub overflow_mul-o : goal.overflow_mul-o
+overflow_mul-o c = omega (arith, entry (goal.at.overflow_mul-o c).In-loop-j)
 
-pub loop-j-init : goal.loop-j-init
-unfolding fold
-loop-j-init c = (omega arith, refl)
+pub overflow_add-o : goal.overflow_add-o
+overflow_add-o c = omega (arith, entry (goal.at.overflow_add-o c).In-loop-j)
 
-pub overflow_mul-p : goal.overflow_mul-p
-overflow_mul-p c = omega (arith, entry (goal.at.overflow_mul-p c).In-loop-j)
+pub overflow_mul-o-in-loop-j : goal.overflow_mul-o-in-loop-j
+overflow_mul-o-in-loop-j c = omega (arith, entry (goal.at.overflow_mul-o-in-loop-j c).In-loop-j)
 
-pub overflow_add-p : goal.overflow_add-p
-overflow_add-p c = omega (arith, entry (goal.at.overflow_add-p c).In-loop-j)
+pub overflow_add-o-in-loop-j : goal.overflow_add-o-in-loop-j
+overflow_add-o-in-loop-j c = omega (arith, entry (goal.at.overflow_add-o-in-loop-j c).In-loop-j)
 
-pub overflow_mul-p-in-loop-j : goal.overflow_mul-p-in-loop-j
-overflow_mul-p-in-loop-j c = omega (arith, entry (goal.at.overflow_mul-p-in-loop-j c).In-loop-j)
+pub bounds-flags-o : goal.bounds-flags-o
+bounds-flags-o c = omega (arith, (entry (goal.at.bounds-flags-o c).In-loop-j).flag.inside)
 
-pub overflow_add-p-in-loop-j : goal.overflow_add-p-in-loop-j
-overflow_add-p-in-loop-j c = omega (arith, entry (goal.at.overflow_add-p-in-loop-j c).In-loop-j)
+pub offset_bounds-first-o : goal.offset_bounds-first-o
+offset_bounds-first-o c = omega (arith, entry (goal.at.offset_bounds-first-o c).In-loop-j)
 
-pub bounds-flags-p : goal.bounds-flags-p
-bounds-flags-p c = omega (arith, (entry (goal.at.bounds-flags-p c).In-loop-j).flag.inside)
+pub bounds-first-o : goal.bounds-first-o
+bounds-first-o c = omega (arith, (entry (goal.at.bounds-first-o c).In-loop-j).first.inside)
 
-pub offset_bounds-first-p : goal.offset_bounds-first-p
-offset_bounds-first-p c = omega (arith, entry (goal.at.offset_bounds-first-p c).In-loop-j)
+pub offset_bounds-second-o : goal.offset_bounds-second-o
+offset_bounds-second-o c = omega (arith, entry (goal.at.offset_bounds-second-o c).In-loop-j)
 
-pub bounds-first-p : goal.bounds-first-p
-bounds-first-p c = omega (arith, (entry (goal.at.bounds-first-p c).In-loop-j).first.inside)
-
-pub offset_bounds-second-p : goal.offset_bounds-second-p
-offset_bounds-second-p c = omega (arith, entry (goal.at.offset_bounds-second-p c).In-loop-j)
-
-pub bounds-second-p : goal.bounds-second-p
-bounds-second-p c = omega (arith, (entry (goal.at.bounds-second-p c).In-loop-j).second.inside)
+pub bounds-second-o : goal.bounds-second-o
+bounds-second-o c = omega (arith, (entry (goal.at.bounds-second-o c).In-loop-j).second.inside)
 
 pub offset_bounds-strengths-s : goal.offset_bounds-strengths-s
 offset_bounds-strengths-s c = omega (arith, entry (goal.at.offset_bounds-strengths-s c).In-loop-j)
@@ -57,13 +49,9 @@ offset_bounds-strengths-s c = omega (arith, entry (goal.at.offset_bounds-strengt
 pub bounds-strengths-s : goal.bounds-strengths-s
 bounds-strengths-s c = omega (arith, (entry (goal.at.bounds-strengths-s c).In-loop-j).strength.inside)
 
-pub loop-j-preserved : goal.loop-j-preserved
-unfolding slot_step
-loop-j-preserved c = (omega arith, turn _ _ _ c.add_slot-total.ensures c.loop-j.invariant.1)
-
 pub loop-k-preserved : goal.loop-k-preserved
 unfolding column_sum
-loop-k-preserved c = (omega arith, turn _ _ _ (at_end _ _ _ _ (omega arith) c.loop-j.invariant.1) c.loop-k.invariant.1)
+loop-k-preserved c = (omega (arith, c.args.later.now.alike), turn _ _ _ (at_end _ _ _ _ (omega arith) c.loop-j.invariant.1) c.loop-k.invariant.1)
 
 pub loop-b-preserved : goal.loop-b-preserved
 loop-b-preserved c =
@@ -72,10 +60,11 @@ loop-b-preserved c =
       omega arith,
       refl,
       length-set l.totals l.b c.loop-k.total ∙ l.invariant.2,
-      filled_step _ l.invariant.3 h (whole _ _ _ _ _ _ _ _ _ _ _ _ c.block_of-c.ensures (omega arith) c.loop-k.invariant.1),
+      filled_step _ l.invariant.3 h (whole _ _ _ _ _ _ _ _ _ _ _ _ c.block-c.ensures (omega (arith, c.args.later.now.alike)) c.loop-k.invariant.1),
     )
 
 pub returns : goal.returns
 returns c =
-    let e : c.loop-b.b ≡ length c.args.totals.now = omega arith in
-    filled_table c.loop-b.invariant.2 (rw e at c.loop-b.invariant.3)
+    let e : c.loop-b.b ≡ c.args.slots.now.positions = omega arith in
+    let all : length c.loop-b.totals ≡ c.args.slots.now.positions = omega arith in
+    filled_table all (rw e at c.loop-b.invariant.3)
