@@ -1,14 +1,14 @@
 // The slots of one triplet: blocks of a position of the bands table, rows of a band of the second leg, in a row the bands of the third.
 ghost use Rattle.std.specs.Prelude.{◌≡◌, true, ℕ, ◌+◌, ◌*◌, ◌<◌, ◌≤◌, length, set};
-ghost use Rattle.phonon.specs.Number.{◌⊖◌, index, int, table};
+ghost use Rattle.phonon.specs.Number.{◌⊖◌, index, int};
 ghost use Rattle.phonon.specs.Tests.{finite};
-ghost use Rattle.integration_weights.specs.declared.Shape.TheVariants.{Gaussian};
 ghost use Rattle.integration_weights.specs.Weights.{flag_of};
-ghost use Rattle.integration_weights.specs.Rows.{SameLength, row_slot, block_slot, slot_in, Good, Finite, Value};
+ghost use Rattle.integration_weights.specs.Rows.{SameLength, Written, row_slot, block_slot, slot_in, Good, Finite, Value};
 
 use crate::Shape;
-use crate::shapes::{gaussian_at, gaussian_two, shape_at, shape_two};
+use crate::shapes::{Bell, Broadening};
 use funcs::Two;
+use phonon::Legs;
 use planes::index_at;
 
 // Of the shape's three values: since none is negative, their sum is zero exactly if all are. One comparison takes much less time
@@ -24,7 +24,7 @@ fn flag_of(a: f64, b: f64, c: f64) -> u8
 }
 
 // Both weights and the flag of slot k, from the shape's three values there.
-pub fn put_one(
+fn put_one(
     a: f64,
     b: f64,
     c: f64,
@@ -74,9 +74,9 @@ fn put_two(
     flags[k + 1] = flag_of(a.two, b.two, c.two);
 }
 
-// A row of any shape, two slots at a time: x and y are the frequencies of its bands of the first two legs, leg has those of the third.
-fn shape_row(
-    s: Shape,
+// A row, two slots at a time: x and y are the frequencies of its bands of the first two legs, leg has those of the third.
+fn row<B: Broadening>(
+    of: B,
     x: f64,
     y: f64,
     leg: &[f64],
@@ -85,75 +85,34 @@ fn shape_row(
     flags: &mut [u8],
 )
     requires { SameLength (length leg.now) (length first.old) (length second.old) (length flags.old)
-        × Good s
+        × Good (B.shape of)
         × (finite x ≡ true)
         × (finite y ≡ true)
         × Finite leg.now }
-    ensures { (first.new ≡ table (length leg.now) (λ k. (row_slot s x y leg.now k).first))
-        × (second.new ≡ table (length leg.now) (λ k. (row_slot s x y leg.now k).second))
-        × (flags.new ≡ table (length leg.now) (λ k. (row_slot s x y leg.now k).flag)) }
+    ensures { Written (row_slot (B.shape of) x y leg.now) (length leg.now) first.new second.new flags.new }
 {
     let n = leg.len();
     let u = x - y;
     let v = x + y;
-    let mut k = 0;
-    while k + 1 < n {
+    for i in 0..n / 2 {
+        let k = 2 * i;
         let z = leg[k];
         let t = leg[k + 1];
-        let a = shape_two(s, u - z, u - t);
-        let b = shape_two(s, v - z, v - t);
-        let c = shape_two(s, u + z, u + t);
+        let a = of.two(u - z, u - t);
+        let b = of.two(v - z, v - t);
+        let c = of.two(u + z, u + t);
         put_two(a, b, c, k, first, second, flags);
-        k += 2;
     }
-    if k < n {
+    if n % 2 == 1 {
+        let k = n - 1;
         let z = leg[k];
-        let a = shape_at(s, u - z);
-        let b = shape_two(s, v - z, u + z);
+        let a = of.at(u - z);
+        let b = of.two(v - z, u + z);
         put_one(a, b.one, b.two, k, first, second, flags);
     }
 }
 
-// Of a Gaussian: two exponentials are worked side by side.
-fn gaussian_row(
-    w: f64,
-    x: f64,
-    y: f64,
-    leg: &[f64],
-    first: &mut [f64],
-    second: &mut [f64],
-    flags: &mut [u8],
-)
-    requires { SameLength (length leg.now) (length first.old) (length second.old) (length flags.old)
-        × Good (Gaussian w)
-        × (finite x ≡ true)
-        × (finite y ≡ true)
-        × Finite leg.now }
-    ensures { (first.new ≡ table (length leg.now) (λ k. (row_slot (Gaussian w) x y leg.now k).first))
-        × (second.new ≡ table (length leg.now) (λ k. (row_slot (Gaussian w) x y leg.now k).second))
-        × (flags.new ≡ table (length leg.now) (λ k. (row_slot (Gaussian w) x y leg.now k).flag)) }
-{
-    let n = leg.len();
-    let u = x - y;
-    let v = x + y;
-    let mut k = 0;
-    while k + 1 < n {
-        let z = leg[k];
-        let t = leg[k + 1];
-        let a = gaussian_two(w, u - z, u - t);
-        let b = gaussian_two(w, v - z, v - t);
-        let c = gaussian_two(w, u + z, u + t);
-        put_two(a, b, c, k, first, second, flags);
-        k += 2;
-    }
-    if k < n {
-        let z = leg[k];
-        let a = gaussian_at(w, u - z);
-        let b = gaussian_two(w, v - z, u + z);
-        put_one(a, b.one, b.two, k, first, second, flags);
-    }
-}
-
+// Of a Gaussian two exponentials are worked side by side.
 fn fill_row(
     s: Shape,
     x: f64,
@@ -168,13 +127,11 @@ fn fill_row(
         × (finite x ≡ true)
         × (finite y ≡ true)
         × Finite leg.now }
-    ensures { (first.new ≡ table (length leg.now) (λ k. (row_slot s x y leg.now k).first))
-        × (second.new ≡ table (length leg.now) (λ k. (row_slot s x y leg.now k).second))
-        × (flags.new ≡ table (length leg.now) (λ k. (row_slot s x y leg.now k).flag)) }
+    ensures { Written (row_slot s x y leg.now) (length leg.now) first.new second.new flags.new }
 {
     match s {
-        Shape::Gaussian(w) => gaussian_row(w, x, y, leg, first, second, flags),
-        _ => shape_row(s, x, y, leg, first, second, flags),
+        Shape::Gaussian(width) => row(Bell { width }, x, y, leg, first, second, flags),
+        _ => row(s, x, y, leg, first, second, flags),
     }
 }
 
@@ -193,9 +150,7 @@ fn fill_block(
         × (finite x ≡ true)
         × Finite leg1.now
         × Finite leg2.now }
-    ensures { (first.new ≡ table (length leg1.now * length leg2.now) (λ q. (block_slot s x leg1.now leg2.now q).first))
-        × (second.new ≡ table (length leg1.now * length leg2.now) (λ q. (block_slot s x leg1.now leg2.now q).second))
-        × (flags.new ≡ table (length leg1.now * length leg2.now) (λ q. (block_slot s x leg1.now leg2.now q).flag)) }
+    ensures { Written (block_slot s x leg1.now leg2.now) (length leg1.now * length leg2.now) first.new second.new flags.new }
 {
     let n = leg2.len();
     for j in 0..leg1.len() {
@@ -213,42 +168,36 @@ fn fill_block(
     }
 }
 
-// All slots: leg0, leg1 and leg2 are the frequencies at the triplet's points.
+// All slots: legs has the frequencies at the triplet's points.
 pub fn fill_weights(
     s: Shape,
     bands: &[i64],
-    leg0: &[f64],
-    leg1: &[f64],
-    leg2: &[f64],
+    legs: Legs<&[f64]>,
     first: &mut [f64],
     second: &mut [f64],
     flags: &mut [u8],
 )
-    requires { (length leg1.now ≤ 3000)
-        × (length leg2.now ≤ 3000)
-        × ((b : ℕ) → b < length bands.now → index (int bands.now b) < length leg0.now)
-        × SameLength (length bands.now * (length leg1.now * length leg2.now)) (length first.old) (length second.old) (length flags.old)
+    requires { (length legs.leg1.now ≤ 3000)
+        × (length legs.leg2.now ≤ 3000)
+        × ((b : ℕ) → b < length bands.now → index (int bands.now b) < length legs.leg0.now)
+        × SameLength (length bands.now * (length legs.leg1.now * length legs.leg2.now)) (length first.old) (length second.old) (length flags.old)
         × Good s
-        × Finite leg0.now
-        × Finite leg1.now
-        × Finite leg2.now }
-    ensures { (first.new ≡ table (length bands.now * (length leg1.now * length leg2.now))
-        (λ p. (slot_in s bands.now leg0.now leg1.now leg2.now p).first))
-        × (second.new ≡ table (length bands.now * (length leg1.now * length leg2.now))
-        (λ p. (slot_in s bands.now leg0.now leg1.now leg2.now p).second))
-        × (flags.new ≡ table (length bands.now * (length leg1.now * length leg2.now))
-        (λ p. (slot_in s bands.now leg0.now leg1.now leg2.now p).flag)) }
+        × Finite legs.leg0.now
+        × Finite legs.leg1.now
+        × Finite legs.leg2.now }
+    ensures { Written (slot_in s bands.now legs.leg0.now legs.leg1.now legs.leg2.now)
+        (length bands.now * (length legs.leg1.now * length legs.leg2.now)) first.new second.new flags.new }
 {
-    let area = leg1.len() * leg2.len();
+    let area = legs.leg1.len() * legs.leg2.len();
     for b in 0..bands.len() {
-        let x = leg0[index_at(bands, b)];
+        let x = legs.leg0[index_at(bands, b)];
         let from = b * area;
         let to = from + area;
         fill_block(
             s,
             x,
-            leg1,
-            leg2,
+            legs.leg1,
+            legs.leg2,
             &mut first[from..to],
             &mut second[from..to],
             &mut flags[from..to],

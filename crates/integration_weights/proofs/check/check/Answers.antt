@@ -36,6 +36,6 @@ points_number-points-requires c =
 pub returns : goal.returns
 unfolding weights_refusal
 returns c =
-    let width = rw c.width_of.ensures at c.width_number-width.ensures in
+    let width = rw c.width_of.ensures at c.check_width-width.ensures in
     checked_is _ c.checked_of.ensures
-    (join _ _ c.bands_number-tables.ensures (join3 _ _ _ c.weights_number-lent.ensures c.points_number-points.ensures width c.lower_of.ensures c.lower_of-2.ensures) c.lower_of-3.ensures)
+    (join _ _ c.check_bands-tables.ensures (join3 _ _ _ c.check_weights-lent.ensures c.points_number-points.ensures width c.lower_of.ensures c.lower_of-2.ensures) c.lower_of-3.ensures)

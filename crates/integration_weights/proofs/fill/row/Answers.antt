@@ -3,7 +3,7 @@ use Prim.Native.Nat.{◌+◌}
 use native.Mathlib.Omega.{arith}
 use Rattle.integration_weights.proofs.ValueLaws.{values_good}
 use Rattle.integration_weights.proofs.SlotLaws.{slots_none, slots_all, row_one, row_two}
-use Rattle.integration_weights.proofs.fill.shape_row.Goals as goal
+use Rattle.integration_weights.proofs.fill.row.Goals as goal
 
 pub loop-k-init : goal.loop-k-init
 loop-k-init c = slots_none _ _ c.requires.0

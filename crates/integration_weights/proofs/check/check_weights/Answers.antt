@@ -3,7 +3,7 @@ use mathlib.Core.Path.{refl, sym, ◌∙◌}
 use Rattle.phonon.specs.Tests.{all_true, all_true_after}
 use Rattle.phonon.proofs.Lowest.{pass, stop, none_left}
 use Rattle.integration_weights.specs.Refusal.{weight_lengths}
-use Rattle.integration_weights.proofs.check.weights_number.Goals as goal
+use Rattle.integration_weights.proofs.check.check_weights.Goals as goal
 
 pub returns-then-not-sized : goal.returns-then-not-sized
 unfolding weight_lengths all_true all_true_after

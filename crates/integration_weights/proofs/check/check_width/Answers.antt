@@ -2,7 +2,7 @@
 use mathlib.Core.Path.{refl, sym, ◌∙◌}
 use Rattle.phonon.proofs.Lowest.{pass, stop, none_left}
 use Rattle.integration_weights.specs.Refusal.{width_ok}
-use Rattle.integration_weights.proofs.check.width_number.Goals as goal
+use Rattle.integration_weights.proofs.check.check_width.Goals as goal
 
 pub returns-then-not-is_finite : goal.returns-then-not-is_finite
 returns-then-not-is_finite c = sym (stop 3 _ refl (sym c.is_finite.ensures ∙ c.if-not-is_finite.true))

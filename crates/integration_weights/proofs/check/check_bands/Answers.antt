@@ -10,8 +10,8 @@ use Rattle.phonon.specs.Tests.{all_true, all_true_after}
 use Rattle.phonon.proofs.Lowest.{pass, stop, none_left}
 use Rattle.checks.proofs.MeasureLaws.{room}
 use Rattle.integration_weights.specs.Refusal.{band_lengths, bands_ok}
-use Rattle.integration_weights.proofs.check.bands_number.Goals as goal
-use Rattle.integration_weights.proofs.check.bands_number.Goals.{After-all_within, Else-not-sized}
+use Rattle.integration_weights.proofs.check.check_bands.Goals as goal
+use Rattle.integration_weights.proofs.check.check_bands.Goals.{After-all_within, Else-not-sized}
 
 sized : (c : Else-not-sized) → all_true (band_lengths c.args.m (length c.args.bands.now) (length c.args.frequencies.now)) ≡ true
 unfolding band_lengths all_true all_true_after

@@ -1,7 +1,7 @@
 -- Where both are cut, both are 0.0; elsewhere each is what its own test says.
 use Rattle.phonon.proofs.Accepted.{and_both}
 use Rattle.integration_weights.proofs.ShapeLaws.{far, either}
-use Rattle.integration_weights.proofs.shapes.gaussian_two.Goals as goal
+use Rattle.integration_weights.proofs.shapes.BellBroadening.two.Goals as goal
 
 pub returns-then-a-b : goal.returns-then-a-b
 returns-then-a-b c =
