@@ -1,13 +1,12 @@
 // The slots of one triplet: blocks of a position of the bands table, rows of a band of the second leg, in a row the bands of the third.
 ghost use Rattle.std.specs.Prelude.{◌≡◌, true, ℕ, ◌+◌, ◌*◌, ◌<◌, ◌≤◌, length, set};
-ghost use Rattle.phonon.specs.Number.{◌⊖◌, index, int};
+ghost use Rattle.phonon.specs.Number.{◌⊖◌, at, index, int};
 ghost use Rattle.phonon.specs.Tests.{finite};
 ghost use Rattle.integration_weights.specs.Weights.{flag_of};
 ghost use Rattle.integration_weights.specs.Rows.{SameLength, Written, row_slot, block_slot, slot_in, Good, Finite, Value};
 
 use crate::Shape;
 use crate::shapes::{Bell, Broadening};
-use funcs::Two;
 use phonon::Legs;
 use planes::index_at;
 
@@ -45,9 +44,9 @@ fn put_one(
 
 // Of slots k and k + 1. Each slice takes its two entries in turn, so that they are stored at once.
 fn put_two(
-    a: Two,
-    b: Two,
-    c: Two,
+    a: [f64; 2],
+    b: [f64; 2],
+    c: [f64; 2],
     k: usize,
     first: &mut [f64],
     second: &mut [f64],
@@ -56,22 +55,22 @@ fn put_two(
     requires { (k + 1 < length first.old)
         × (k + 1 < length second.old)
         × (k + 1 < length flags.old)
-        × Value a.one
-        × Value b.one
-        × Value c.one
-        × Value a.two
-        × Value b.two
-        × Value c.two }
-    ensures { (first.new ≡ set (set first.old k a.one) (k + 1) a.two)
-        × (second.new ≡ set (set second.old k (b.one ⊖ c.one)) (k + 1) (b.two ⊖ c.two))
-        × (flags.new ≡ set (set flags.old k (flag_of a.one b.one c.one)) (k + 1) (flag_of a.two b.two c.two)) }
+        × Value (at a 0)
+        × Value (at b 0)
+        × Value (at c 0)
+        × Value (at a 1)
+        × Value (at b 1)
+        × Value (at c 1) }
+    ensures { (first.new ≡ set (set first.old k (at a 0)) (k + 1) (at a 1))
+        × (second.new ≡ set (set second.old k (at b 0 ⊖ at c 0)) (k + 1) (at b 1 ⊖ at c 1))
+        × (flags.new ≡ set (set flags.old k (flag_of (at a 0) (at b 0) (at c 0))) (k + 1) (flag_of (at a 1) (at b 1) (at c 1))) }
 {
-    first[k] = a.one;
-    first[k + 1] = a.two;
-    second[k] = b.one - c.one;
-    second[k + 1] = b.two - c.two;
-    flags[k] = flag_of(a.one, b.one, c.one);
-    flags[k + 1] = flag_of(a.two, b.two, c.two);
+    first[k] = a[0];
+    first[k + 1] = a[1];
+    second[k] = b[0] - c[0];
+    second[k + 1] = b[1] - c[1];
+    flags[k] = flag_of(a[0], b[0], c[0]);
+    flags[k + 1] = flag_of(a[1], b[1], c[1]);
 }
 
 // A row, two slots at a time: x and y are the frequencies of its bands of the first two legs, leg has those of the third.
@@ -108,7 +107,7 @@ fn row<B: Broadening>(
         let z = leg[k];
         let a = of.at(u - z);
         let b = of.two(v - z, u + z);
-        put_one(a, b.one, b.two, k, first, second, flags);
+        put_one(a, b[0], b[1], k, first, second, flags);
     }
 }
 
@@ -185,8 +184,8 @@ pub fn fill_weights(
         × Finite legs.leg0.now
         × Finite legs.leg1.now
         × Finite legs.leg2.now }
-    ensures { Written (slot_in s bands.now legs.leg0.now legs.leg1.now legs.leg2.now)
-        (length bands.now * (length legs.leg1.now * length legs.leg2.now)) first.new second.new flags.new }
+    ensures { Written (slot_in s bands.now legs.entry.leg0.now legs.entry.leg1.now legs.entry.leg2.now)
+        (length bands.now * (length legs.entry.leg1.now * length legs.entry.leg2.now)) first.new second.new flags.new }
 {
     let area = legs.leg1.len() * legs.leg2.len();
     for b in 0..bands.len() {

@@ -1,5 +1,5 @@
 // The value of a shape at a distance.
-ghost use Rattle.std.specs.Prelude.{◌≡◌, cond};
+ghost use Rattle.std.specs.Prelude.{◌≡◌, cond, [], ◌∷◌};
 ghost use Rattle.std.specs.Float.Ieee.{lt};
 ghost use Rattle.phonon.specs.Number.{◌⊗◌, ◌⊘◌, f0, f1, f2};
 ghost use Rattle.integration_weights.specs.declared.Shape.{Shape};
@@ -7,7 +7,6 @@ ghost use Rattle.integration_weights.specs.declared.Shape.TheVariants.{Gaussian}
 ghost use Rattle.integration_weights.specs.Shapes as Shapes;
 
 use crate::Shape;
-use funcs::Two;
 
 // 3FD45F306DC9C883, the f64 nearest 1/π
 const INVERSE_PI: f64 = 0.3183098861837907;
@@ -62,8 +61,8 @@ pub trait Broadening: Copy {
     fn at(self, d: f64) -> f64
         ensures { result ≡ Shapes.shape_at (shape self) d };
 
-    fn two(self, d: f64, e: f64) -> Two
-        ensures { (result.one ≡ Shapes.shape_at (shape self) d) × (result.two ≡ Shapes.shape_at (shape self) e) };
+    fn two(self, d: f64, e: f64) -> [f64; 2]
+        ensures { result ≡ Shapes.shape_at (shape self) d ∷ Shapes.shape_at (shape self) e ∷ [] };
 }
 
 // A Gaussian of a width: at two distances the exponentials are worked side by side.
@@ -112,19 +111,16 @@ impl Broadening for Bell {
     }
 
     // If both distances are cut, as most are of a narrow Gaussian, no exponential is worked.
-    fn two(self, d: f64, e: f64) -> Two {
+    fn two(self, d: f64, e: f64) -> [f64; 2] {
         let w = self.width;
         let a = is_cut(w, d);
         let b = is_cut(w, e);
         if a & b {
-            return Two { one: 0.0, two: 0.0 };
+            return [0.0, 0.0];
         }
-        let x = funcs::exp_two(argument(a, d / w), argument(b, e / w));
+        let x = funcs::exps([argument(a, d / w), argument(b, e / w)]);
         let scale = GAUSSIAN_SCALE / w;
-        Two {
-            one: value(a, x.one, scale),
-            two: value(b, x.two, scale),
-        }
+        [value(a, x[0], scale), value(b, x[1], scale)]
     }
 }
 
@@ -141,10 +137,7 @@ impl Broadening for Shape {
     }
 
     // Of a Lorentzian and a box they are worked as a vector.
-    fn two(self, d: f64, e: f64) -> Two {
-        Two {
-            one: self.at(d),
-            two: self.at(e),
-        }
+    fn two(self, d: f64, e: f64) -> [f64; 2] {
+        [self.at(d), self.at(e)]
     }
 }

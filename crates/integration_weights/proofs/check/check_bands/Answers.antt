@@ -7,15 +7,16 @@ use lib.ListN.{length}
 use mir.ValLaws.{to_z_pos}
 use mir.Syntax.{w64}
 use Rattle.phonon.specs.Tests.{all_true, all_true_after}
-use Rattle.phonon.proofs.Lowest.{pass, stop, none_left}
+use Rattle.phonon.proofs.Lowest.{pass, stop}
+use Rattle.checks.proofs.AnswerLaws.{passed, failed, handed_on, of_one}
 use Rattle.checks.proofs.MeasureLaws.{room}
 use Rattle.integration_weights.specs.Refusal.{band_lengths, bands_ok}
 use Rattle.integration_weights.proofs.check.check_bands.Goals as goal
-use Rattle.integration_weights.proofs.check.check_bands.Goals.{After-all_within, Else-not-sized}
+use Rattle.integration_weights.proofs.check.check_bands.Goals.{After-all_within, In_ok-require}
 
-sized : (c : Else-not-sized) → all_true (band_lengths c.args.m (length c.args.bands.now) (length c.args.frequencies.now)) ≡ true
+sized : (c : In_ok-require) → all_true (band_lengths c.args.m (length c.args.bands.now) (length c.args.frequencies.now)) ≡ true
 unfolding band_lengths all_true all_true_after
-sized c = c.if-not-sized.false
+sized c = passed _ _ c.require.ensures c.in_ok-require.was
 
 inside : (c : After-all_within) → c.all_within.result ≡ bands_ok c.args.m c.args.bands.now
 unfolding bands_ok
@@ -30,9 +31,11 @@ overflow_mul-nb c = omega (arith, (room _ c.requires).bands)
 pub overflow_mul-sized : goal.overflow_mul-sized
 overflow_mul-sized c = omega (arith, (room _ c.requires).frequencies)
 
-pub returns-then-not-sized : goal.returns-then-not-sized
+pub returns-in_err-require : goal.returns-in_err-require
 unfolding band_lengths all_true all_true_after
-returns-then-not-sized c = sym (pass _ _ c.requires ∙ stop 1 _ refl c.if-not-sized.true)
+returns-in_err-require c =
+    let f = failed _ _ c.require.ensures c.in_err-require.was in
+    rw (handed_on _ c.from_residual.ensures.1, f.1) (sym (pass _ _ c.requires ∙ stop 1 _ refl f.0))
 
 pub overflow_sub-nb : goal.overflow_sub-nb
 overflow_sub-nb c = omega (arith, (room _ c.requires).some)
@@ -40,11 +43,15 @@ overflow_sub-nb c = omega (arith, (room _ c.requires).some)
 pub overflow_cast-nb : goal.overflow_cast-nb
 overflow_cast-nb c = record { sfits = omega (arith, (room _ c.requires).bands) }
 
-pub returns-then-not-all_within : goal.returns-then-not-all_within
-returns-then-not-all_within c = sym (pass _ _ c.requires ∙ pass _ _ (sized (goal.at.returns-then-not-all_within c).Else-not-sized) ∙ stop 2 _ refl (sym (inside (goal.at.returns-then-not-all_within c).After-all_within) ∙ c.if-not-all_within.true))
-
-pub returns-then-not-all_finite : goal.returns-then-not-all_finite
-returns-then-not-all_finite c = sym (pass _ _ c.requires ∙ pass _ _ (sized (goal.at.returns-then-not-all_finite c).Else-not-sized) ∙ pass _ _ (sym (inside (goal.at.returns-then-not-all_finite c).After-all_within) ∙ c.if-not-all_within.false) ∙ stop 3 _ refl (sym c.all_finite.ensures ∙ c.if-not-all_finite.true))
+pub returns-in_err-require-2 : goal.returns-in_err-require-2
+returns-in_err-require-2 c =
+    let f = failed _ _ c.require-2.ensures c.in_err-require-2.was in
+    let p = goal.at.returns-in_err-require-2 c in
+    rw (handed_on _ c.from_residual-in_err-require-2.ensures.1, f.1)
+    (sym (pass _ _ c.requires ∙ pass _ _ (sized p.In_ok-require) ∙ stop 2 _ refl (sym (inside p.After-all_within) ∙ f.0)))
 
 pub returns : goal.returns
-returns c = sym (pass _ _ c.requires ∙ pass _ _ (sized (goal.at.returns c).Else-not-sized) ∙ pass _ _ (sym (inside (goal.at.returns c).After-all_within) ∙ c.if-not-all_within.false) ∙ pass _ _ (sym c.all_finite.ensures ∙ c.if-not-all_finite.false) ∙ none_left)
+returns c =
+    let p = goal.at.returns c in
+    of_one _ _ (rw c.all_finite.ensures at c.require-3.ensures)
+    ∙ sym (pass _ _ c.requires ∙ pass _ _ (sized p.In_ok-require) ∙ pass _ _ (sym (inside p.After-all_within) ∙ passed _ _ c.require-2.ensures c.in_ok-require-2.was))

@@ -1,11 +1,7 @@
--- After k slots each of the three slices holds the first k of its table: two slots more in a turn, and a last one where the row is odd.
-use Prim.Native.Nat.{◌-◌}
-use lib.ListN.{length}
+-- After i turns each of the three slices holds the first 2 * i of its table: two slots more in a turn, and a last one where the row is odd.
+use Prim.Native.Nat.{◌*◌}
 use Rattle.integration_weights.proofs.SlotLaws.{Row}
 use Rattle.integration_weights.proofs.fill.row.Given as goal
 
-abbrev pub invariant-loop-k : goal.invariant-loop-k
-invariant-loop-k l = Row l.s l.x l.y l.leg l.k l.first l.second l.flags
-
-abbrev pub decreases-loop-k : goal.decreases-loop-k
-decreases-loop-k l = length l.leg - l.k
+abbrev pub invariant-loop-i : goal.invariant-loop-i
+invariant-loop-i g l = Row (g.B.Broadening.shape l.of) l.x l.y l.leg (2 * l.i) l.first l.second l.flags
