@@ -1,14 +1,50 @@
--- A call's answer, made from the door's.
-use Prim.Native.Nat.{ℕ}
-use mathlib.Core.Path.{◌≡◌, refl, ap, ◌∙◌}
-use mathlib.Core.Bool.{Bool, true, false}
-use mathlib.Core.List.{List}
+-- A choice by its number, and a call's answer, made from the door's.
+use Prim.Native.Nat.{ℕ, zero, suc}
+use mathlib.Core.Path.{◌≡◌, refl, sym, ap, ◌∙◌}
+use mathlib.Core.Bool.{Bool, true, false, cond}
+use mathlib.Core.List.{List, [], ◌∷◌}
+use lib.Dec.{eqb}
+use native.Mathlib.Omega.{arith}
 use lib.Ieee.{Float}
+use Rattle.std.proofs.Common.{Option, Some, None, slice_get}
+use Rattle.std.proofs.lemmas.Bool.{lt-leb}
 use Rattle.phonon.specs.Sets.{TotalsSet, JoinedSet}
 use Rattle.phonon.specs.Doors.{StrengthsOutcome, TotalsOutcome, JoinedOutcome, totals_outcome, joined_outcome}
 use Rattle.integration_weights.specs.Sets.{WeightsSet}
 use Rattle.integration_weights.specs.Doors.{WeightsOutcome, weights_outcome}
-use Rattle.wirambolo_c.specs.Foreign.{Strengths, Totals, Joined, WeightsAnswer, strengths_answer, totals_answer, joined_answer, weights_answer}
+use Rattle.wirambolo_c.specs.Foreign.{known, shape_known, Strengths, Totals, Joined, WeightsAnswer, strengths_answer, totals_answer, joined_answer, weights_answer}
+
+-- ---- a choice
+
+given_by : {A : Type 0} (b : Bool) (v f : A) → ◌≡◌ {A = Option A} (cond b (Some v) None) (Some f) → (b ≡ true) × (f ≡ v)
+given_by true v f e = (refl, cc)
+given_by false v f e = absurd cc
+
+missing_by : {A : Type 0} (b : Bool) (v : A) → ◌≡◌ {A = Option A} (cond b (Some v) None) None → b ≡ false
+missing_by true v e = absurd cc
+missing_by false v e = refl
+
+pub given : {A : Type 0} (b : Bool) (v : A) {f : A} {o : Option A} → o ≡ cond b (Some v) None → o ≡ Some f → (b ≡ true) × (f ≡ v)
+given b v {f} e h = given_by b v f (sym e ∙ h)
+
+pub missing : {A : Type 0} (b : Bool) (v : A) {o : Option A} → o ≡ cond b (Some v) None → o ≡ None → b ≡ false
+missing b v e h = missing_by b v (sym e ∙ h)
+
+-- of two, and of three
+pub of_two : {A : Type 0} (a b : A) (x : ℕ) → slice_get (a ∷ b ∷ []) x ≡ cond (known x) (Some (cond (eqb x 0) a b)) None
+unfolding known
+of_two a b zero = refl
+of_two a b (suc zero) = refl
+of_two a b (suc (suc x)) = rw (lt-leb (suc (suc x)) 1 (omega arith)) refl
+
+pub of_three : {A : Type 0} (a b c : A) (x : ℕ) → slice_get (a ∷ b ∷ c ∷ []) x ≡ cond (shape_known x) (Some (cond (eqb x 0) a (cond (eqb x 1) b c))) None
+unfolding shape_known
+of_three a b c zero = refl
+of_three a b c (suc zero) = refl
+of_three a b c (suc (suc zero)) = refl
+of_three a b c (suc (suc (suc x))) = rw (lt-leb (suc (suc (suc x))) 2 (omega arith)) refl
+
+-- ---- an answer
 
 pub strengths_unread : {b : Bool} (o : StrengthsOutcome) (v w : List Float) → b ≡ false
     → ◌≡◌ {A = Strengths} (record { answer = 255; strengths = v; work = w }) (strengths_answer b o v w)

@@ -18,7 +18,7 @@ const UNKNOWN: u8 = 255;
 
 // The choice of a number: that place of a list of them.
 fn choice<T: Copy, const N: usize>(number: u8, of: [T; N]) -> Option<T>
-    ensures { result ≡ slice_get of.entry number }
+    ensures { result ≡ slice_get of number }
 {
     of.get(number as usize).copied()
 }
