@@ -2,21 +2,22 @@
 use Prim.Native.Nat.{◌-◌, ◌*◌}
 use native.Mathlib.Omega.{arith}
 use mathlib.Core.Path.{◌≡◌, refl, sym, ◌∙◌}
-use mathlib.Core.Bool.{true}
-use lib.ListN.{length}
+use lib.ListN.{drop}
 use mir.ValLaws.{to_z_pos}
 use mir.Syntax.{w64}
 use Rattle.phonon.specs.Tests.{all_true, all_true_after}
-use Rattle.phonon.proofs.Lowest.{pass, stop}
-use Rattle.checks.proofs.AnswerLaws.{passed, failed, handed_on, of_one}
+use Rattle.phonon.specs.Refusal.{lowest}
+use Rattle.phonon.proofs.Lowest.{pass}
+use Rattle.checks.proofs.AnswerLaws.{walked, turned, of_one}
 use Rattle.checks.proofs.MeasureLaws.{room}
-use Rattle.integration_weights.specs.Refusal.{band_lengths, bands_ok}
+use Rattle.integration_weights.specs.Refusal.{band_lengths, bands_ok, band_tests}
 use Rattle.integration_weights.proofs.check.check_bands.Goals as goal
 use Rattle.integration_weights.proofs.check.check_bands.Goals.{After-all_within, In_ok-require}
 
-sized : (c : In_ok-require) → all_true (band_lengths c.args.m (length c.args.bands.now) (length c.args.frequencies.now)) ≡ true
+-- the lengths are right
+sized : (c : In_ok-require) → lowest (band_tests c.args.m c.args.bands.now c.args.frequencies.now) ≡ lowest (drop 2 (band_tests c.args.m c.args.bands.now c.args.frequencies.now))
 unfolding band_lengths all_true all_true_after
-sized c = passed _ _ c.require.ensures c.in_ok-require.was
+sized c = pass _ _ c.requires ∙ walked _ _ refl c.require.ensures c.in_ok-require.was
 
 inside : (c : After-all_within) → c.all_within.result ≡ bands_ok c.args.m c.args.bands.now
 unfolding bands_ok
@@ -33,9 +34,7 @@ overflow_mul-sized c = omega (arith, (room _ c.requires).frequencies)
 
 pub returns-in_err-require : goal.returns-in_err-require
 unfolding band_lengths all_true all_true_after
-returns-in_err-require c =
-    let f = failed _ _ c.require.ensures c.in_err-require.was in
-    rw (handed_on _ c.from_residual.ensures.1, f.1) (sym (pass _ _ c.requires ∙ stop 1 _ refl f.0))
+returns-in_err-require c = turned _ _ _ refl refl c.require.ensures c.in_err-require.was c.from_residual.ensures.1 ∙ sym (pass _ _ c.requires)
 
 pub overflow_sub-nb : goal.overflow_sub-nb
 overflow_sub-nb c = omega (arith, (room _ c.requires).some)
@@ -45,13 +44,11 @@ overflow_cast-nb c = record { sfits = omega (arith, (room _ c.requires).bands) }
 
 pub returns-in_err-require-2 : goal.returns-in_err-require-2
 returns-in_err-require-2 c =
-    let f = failed _ _ c.require-2.ensures c.in_err-require-2.was in
     let p = goal.at.returns-in_err-require-2 c in
-    rw (handed_on _ c.from_residual-in_err-require-2.ensures.1, f.1)
-    (sym (pass _ _ c.requires ∙ pass _ _ (sized p.In_ok-require) ∙ stop 2 _ refl (sym (inside p.After-all_within) ∙ f.0)))
+    turned _ _ _ refl (inside p.After-all_within) c.require-2.ensures c.in_err-require-2.was c.from_residual-in_err-require-2.ensures.1 ∙ sym (sized p.In_ok-require)
 
 pub returns : goal.returns
 returns c =
     let p = goal.at.returns c in
-    of_one _ _ (rw c.all_finite.ensures at c.require-3.ensures)
-    ∙ sym (pass _ _ c.requires ∙ pass _ _ (sized p.In_ok-require) ∙ pass _ _ (sym (inside p.After-all_within) ∙ passed _ _ c.require-2.ensures c.in_ok-require-2.was))
+    of_one _ c.all_finite.ensures c.require-3.ensures
+    ∙ sym (sized p.In_ok-require ∙ walked _ _ (inside p.After-all_within) c.require-2.ensures c.in_ok-require-2.was)
