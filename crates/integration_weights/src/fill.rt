@@ -1,6 +1,6 @@
 // The slots of one triplet: blocks of a position of the bands table, rows of a band of the second leg, in a row the bands of the third.
-ghost use Rattle.std.specs.Prelude.{◌≡◌, true, ℕ, ◌+◌, ◌*◌, ◌<◌, ◌≤◌, length, set};
-ghost use Rattle.phonon.specs.Number.{◌⊖◌, at, index, int};
+ghost use Rattle.std.specs.Prelude.{◌≡◌, true, ℕ, ◌*◌, ◌<◌, ◌≤◌, length};
+ghost use Rattle.phonon.specs.Number.{index, int};
 ghost use Rattle.phonon.specs.Tests.{finite};
 ghost use Rattle.integration_weights.specs.Weights.{flag_of};
 ghost use Rattle.integration_weights.specs.Rows.{SameLength, Written, row_slot, block_slot, slot_in, Good, Finite, Value};
@@ -22,58 +22,9 @@ fn flag_of(a: f64, b: f64, c: f64) -> u8
     1
 }
 
-// Both weights and the flag of slot k, from the shape's three values there.
-fn put_one(
-    a: f64,
-    b: f64,
-    c: f64,
-    k: usize,
-    first: &mut [f64],
-    second: &mut [f64],
-    flags: &mut [u8],
-)
-    requires { (k < length first.old) × (k < length second.old) × (k < length flags.old) × Value a × Value b × Value c }
-    ensures { (first.new ≡ set first.old k a)
-        × (second.new ≡ set second.old k (b ⊖ c))
-        × (flags.new ≡ set flags.old k (flag_of a b c)) }
-{
-    first[k] = a;
-    second[k] = b - c;
-    flags[k] = flag_of(a, b, c);
-}
-
-// Of slots k and k + 1. Each slice takes its two entries in turn, so that they are stored at once.
-fn put_two(
-    a: [f64; 2],
-    b: [f64; 2],
-    c: [f64; 2],
-    k: usize,
-    first: &mut [f64],
-    second: &mut [f64],
-    flags: &mut [u8],
-)
-    requires { (k + 1 < length first.old)
-        × (k + 1 < length second.old)
-        × (k + 1 < length flags.old)
-        × Value (at a 0)
-        × Value (at b 0)
-        × Value (at c 0)
-        × Value (at a 1)
-        × Value (at b 1)
-        × Value (at c 1) }
-    ensures { (first.new ≡ set (set first.old k (at a 0)) (k + 1) (at a 1))
-        × (second.new ≡ set (set second.old k (at b 0 ⊖ at c 0)) (k + 1) (at b 1 ⊖ at c 1))
-        × (flags.new ≡ set (set flags.old k (flag_of (at a 0) (at b 0) (at c 0))) (k + 1) (flag_of (at a 1) (at b 1) (at c 1))) }
-{
-    first[k] = a[0];
-    first[k + 1] = a[1];
-    second[k] = b[0] - c[0];
-    second[k + 1] = b[1] - c[1];
-    flags[k] = flag_of(a[0], b[0], c[0]);
-    flags[k + 1] = flag_of(a[1], b[1], c[1]);
-}
-
 // A row, two slots at a time: x and y are the frequencies of its bands of the first two legs, leg has those of the third.
+// First, second and flags stand side by side, here and below: of a struct of the three, parts are not lent yet by the borrow check, and
+// by value its contract says what is left in them by position alone.
 fn row<B: Broadening>(
     of: B,
     x: f64,
@@ -100,14 +51,22 @@ fn row<B: Broadening>(
         let a = of.two(u - z, u - t);
         let b = of.two(v - z, v - t);
         let c = of.two(u + z, u + t);
-        put_two(a, b, c, k, first, second, flags);
+        // Each slice takes its two entries in turn, so that they are stored at once.
+        first[k] = a[0];
+        first[k + 1] = a[1];
+        second[k] = b[0] - c[0];
+        second[k + 1] = b[1] - c[1];
+        flags[k] = flag_of(a[0], b[0], c[0]);
+        flags[k + 1] = flag_of(a[1], b[1], c[1]);
     }
     if n % 2 == 1 {
         let k = n - 1;
         let z = leg[k];
         let a = of.at(u - z);
         let b = of.two(v - z, u + z);
-        put_one(a, b[0], b[1], k, first, second, flags);
+        first[k] = a;
+        second[k] = b[0] - b[1];
+        flags[k] = flag_of(a, b[0], b[1]);
     }
 }
 
@@ -152,6 +111,7 @@ fn fill_block(
     ensures { Written (block_slot s x leg1.now leg2.now) (length leg1.now * length leg2.now) first.new second.new flags.new }
 {
     let n = leg2.len();
+    // By places, as the blocks below: three chunks_exact_mut zipped with the bands are no plainer, and ask for rows that are not empty.
     for j in 0..leg1.len() {
         let from = j * n;
         let to = from + n;

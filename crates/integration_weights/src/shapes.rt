@@ -25,6 +25,7 @@ pub fn width_of(s: Shape) -> f64
     }
 }
 
+// f64::abs clears the sign of a zero besides, by one more test at each distance, which plays no part here.
 #[tactic(auto, unfolding(crate::specs::Shapes::magnitude))]
 fn magnitude(d: f64) -> f64
     ensures { result ≡ Shapes.magnitude d }
@@ -54,7 +55,8 @@ fn lorentzian_at(w: f64, d: f64) -> f64
 
 // ---- what a row asks of a shape
 
-// The values at one distance, and at two, of the shape that it stands for.
+// The values at one distance, and at two, of the shape that it stands for. A method of any count would keep arrays of tests and of
+// arguments where these name them.
 pub trait Broadening: Copy {
     ghost shape: { Self → Shape };
 
@@ -78,7 +80,8 @@ fn is_cut(w: f64, d: f64) -> bool
     magnitude(d) > 8.0 * w
 }
 
-// The exponential's argument at t. Where the distance is cut it is 0.0, in the domain of the exponentials that are worked side by side.
+// The exponential's argument at t. Where the distance is cut it is 0.0, in the domain of the exponentials that are worked side by side. The
+// test stands beside it, and no Option: it picks the value as well, and where one of two distances is cut both are worked, with no branch.
 fn argument(cut: bool, t: f64) -> f64
     ensures { result ≡ cond cut f0 (t ⊗ t ⊘ f2) }
 {

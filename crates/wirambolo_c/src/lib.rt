@@ -7,7 +7,7 @@ ghost use Rattle.wirambolo_c.specs.Foreign.{Strengths, Totals, Joined, WeightsAn
 
 use integration_weights::Shape;
 use phonon::{
-    Anchoring, Bath, Crystal, Form, Forces, Grid, IntegrationWeights, Measures, Phonons, Settings,
+    Anchoring, Bath, Crystal, Forces, Form, Grid, IntegrationWeights, Measures, Phonons, Settings,
     Symmetry, Tables, TotalsMeasures, Weights, number_of,
 };
 
@@ -66,7 +66,7 @@ fn choices_of(anchoring: u8, form: u8, symmetry: u8) -> Option<Choices>
     })
 }
 
-// ---- the doors
+// ---- the doors: C hands over each slice by itself, so that each door and its contract name where it belongs
 
 // One triplet.
 #[unsafe(no_mangle)]
@@ -168,9 +168,7 @@ pub extern "C" fn wirambolo_get_interaction_at_triplet(
             eigenvectors,
         },
     };
-    number_of(interaction::get_interaction_at_triplet(
-        &tables, *triplet, flags, strengths, work,
-    ))
+    number_of(interaction::get_interaction_at_triplet(&tables, *triplet, flags, strengths, work))
 }
 
 // A list of triplets.
@@ -275,9 +273,7 @@ pub extern "C" fn wirambolo_get_interaction(
             eigenvectors,
         },
     };
-    number_of(interaction::list::get_interaction(
-        &tables, list, triplets, flags, strengths, work,
-    ))
+    number_of(interaction::list::get_interaction(&tables, list, triplets, flags, strengths, work))
 }
 
 // Totals alone.
