@@ -11,28 +11,20 @@ use borrow.Author.Tests.{eqb-true}
 use lib.IntN.{pos}
 use lib.Ieee.{Float, nan, lt}
 use lib.ListN.{length, get_or-eq_default}
-use Rattle.phonon.specs.declared.Measures.{Measures}
-use Rattle.phonon.specs.declared.Answer.{Answer}
-use Rattle.phonon.specs.declared.Answer.TheVariants.{Accepted}
 use Rattle.phonon.specs.Number.{f0, index, at, int, table}
 use Rattle.phonon.specs.Tests.{finite, all_finite}
 use Rattle.phonon.specs.Sets.{part, measures_of}
 use Rattle.phonon.specs.Refusal.{points_ok}
-use Rattle.phonon.specs.Doors.{answer_for}
 use Rattle.phonon.proofs.Lowest.{none_both, passing}
 use Rattle.phonon.proofs.Accepted.{Measured, measured_facts, holds, every_at, index_below}
 use Rattle.phonon.proofs.Laws.{table_ext, div_of, mod_of, pair_lt, part_at}
 use Rattle.planes.proofs.Products.{row_next}
-use Rattle.checks.specs.declared.verdict.Checked.{Checked}
-use Rattle.checks.specs.declared.verdict.Checked.TheVariants.{Bad}
-use Rattle.checks.specs.Answers.{checked_of, answer_of}
 use Rattle.checks.proofs.AnswerLaws.{turned_back}
 use Rattle.integration_weights.specs.Shapes.{width_of}
 use Rattle.integration_weights.specs.Sets.{WeightsSet, bands_in, slots_in, leg_frequency, slot_of}
 use Rattle.integration_weights.specs.Refusal.{band_lengths, weight_lengths, bands_ok, width_ok, band_tests, weights_refusal}
 use Rattle.integration_weights.specs.Doors.{WeightsOutcome, weights_leaves, weights_outcome}
-use Rattle.integration_weights.specs.Rows.{SameLength, slot_in, Good, Finite}
-use Rattle.integration_weights.proofs.SlotLaws.{All}
+use Rattle.integration_weights.specs.Rows.{SameLength, Written, slot_in, Good, Finite}
 
 pub record AcceptedWeights (s : WeightsSet) : Type 0 where
   pub measured : Measured (measures_of s.measures)
@@ -69,15 +61,12 @@ weights_facts s e =
       above = g.1.1.1.0;
     }
 
--- the frequencies at the grid point of leg l, as they are lent; with the measures m that were checked, and the point g as it was read
+-- the frequencies at the grid point of leg l, as they are lent, with the point g as it was read
 abbrev pub leg_of : WeightsSet → ℕ → List Float
 leg_of s l = part (bands_in s) (index (int s.triplet l)) s.frequencies
 
-pub leg_is : (s : WeightsSet) (l : ℕ) {m : Measures} {g : ℕ} {leg : List Float} → m ≡ measures_of s.measures → g ≡ index (int s.triplet l) → leg ≡ part (3 * m.atoms) g s.frequencies → leg ≡ leg_of s l
-leg_is s l p q h = h ∙ rw (p, q) refl
-
-pub leg_size : (s : WeightsSet) {m : Measures} {n : ℕ} → m ≡ measures_of s.measures → n ≡ 3 * m.atoms → n ≡ bands_in s
-leg_size s p h = h ∙ rw p refl
+pub leg_is : (s : WeightsSet) (l : ℕ) {g : ℕ} {leg : List Float} → g ≡ index (int s.triplet l) → leg ≡ part (bands_in s) g s.frequencies → leg ≡ leg_of s l
+leg_is s l q h = h ∙ rw q refl
 
 module _ (s : WeightsSet) (e : weights_refusal s ≡ 0) where
   facts : AcceptedWeights s
@@ -101,12 +90,12 @@ module _ (s : WeightsSet) (e : weights_refusal s ≡ 0) where
       by (no h) = let z : int s.triplet l ≡ pos 0 = get_or-eq_default s.triplet (pos 0) (omega arith) in rw z (omega (arith, facts.measured.grid))
 
   -- its frequencies lie within the slice
-  pub reached : (l : ℕ) → (index (int s.triplet l) + 1) * bands_in s ≤ length s.frequencies
+  reached : (l : ℕ) → (index (int s.triplet l) + 1) * bands_in s ≤ length s.frequencies
   reached l = rw (add-one, facts.frequencies) (mul-le-mul_right (bands_in s) (point_below l))
 
-  -- with the measures m that were checked, and the point g as it was read
-  pub reached_at : (l : ℕ) {m : Measures} {g : ℕ} → m ≡ measures_of s.measures → g ≡ index (int s.triplet l) → (g + 1) * (3 * m.atoms) ≤ length s.frequencies
-  reached_at l p q = rw (p, q) (reached l)
+  -- with the point g as it was read
+  pub reached_at : (l : ℕ) {g : ℕ} → g ≡ index (int s.triplet l) → (g + 1) * bands_in s ≤ length s.frequencies
+  reached_at l q = rw q (reached l)
 
   pub band_below : (b : ℕ) → b < length s.bands → index (int s.bands b) < bands_in s
   unfolding bands_ok
@@ -187,19 +176,17 @@ module _ (s : WeightsSet) (e : weights_refusal s ≡ 0) where
 
   -- from what the work leaves, with the legs that it was lent
   pub accepted : {l0 l1 l2 : List Float} (a b : List Float) (c : List ℕ) → l0 ≡ leg_of s 0 → l1 ≡ leg_of s 1 → l2 ≡ leg_of s 2 → length l1 ≡ bands_in s → length l2 ≡ bands_in s
-      → All (slot_in s.shape s.bands l0 l1 l2) (length s.bands * (length l1 * length l2)) a b c
-      → ◌≡◌ {A = WeightsOutcome} (record { answer = Accepted; first = a; second = b; flags = c }) (weights_outcome s)
-  unfolding weights_outcome weights_leaves answer_for
+      → Written (slot_in s.shape s.bands l0 l1 l2) (length s.bands * (length l1 * length l2)) a b c
+      → ◌≡◌ {A = WeightsOutcome} (record { answer = 0; first = a; second = b; flags = c }) (weights_outcome s)
+  unfolding weights_outcome weights_leaves
   accepted {l0} {l1} {l2} a b c e0 e1 e2 n1 n2 w =
       let k : length s.bands * (length l1 * length l2) ≡ slots_in s = rw (n1, n2, facts.bands) (sym (mul_assoc s.measures.first (bands_in s) (bands_in s))) in
       let v = slot_same e0 e1 e2 n1 n2 in
-      let p : a ≡ table (slots_in s) (λ n. (slot_of s n).first) = w.0 ∙ rw k (table_ext (slots_in s) _ _ (λ n h. ap (λ x. x.first) (v n h))) in
-      let q : b ≡ table (slots_in s) (λ n. (slot_of s n).second) = w.1 ∙ rw k (table_ext (slots_in s) _ _ (λ n h. ap (λ x. x.second) (v n h))) in
-      let r : c ≡ table (slots_in s) (λ n. (slot_of s n).flag) = w.2 ∙ rw k (table_ext (slots_in s) _ _ (λ n h. ap (λ x. x.flag) (v n h))) in
+      let p : a ≡ table (slots_in s) (λ n. (slot_of s n).first) = w.first ∙ rw k (table_ext (slots_in s) _ _ (λ n h. ap (λ x. x.first) (v n h))) in
+      let q : b ≡ table (slots_in s) (λ n. (slot_of s n).second) = w.second ∙ rw k (table_ext (slots_in s) _ _ (λ n h. ap (λ x. x.second) (v n h))) in
+      let r : c ≡ table (slots_in s) (λ n. (slot_of s n).flag) = w.flags ∙ rw k (table_ext (slots_in s) _ _ (λ n h. ap (λ x. x.flag) (v n h))) in
       rw (e, p, q, r) refl
 
-pub refused : (s : WeightsSet) (a : Answer) (b : Checked) (n : ℕ) → b ≡ checked_of (weights_refusal s) (measures_of s.measures) → b ≡ Bad n → a ≡ answer_of b
-    → ◌≡◌ {A = WeightsOutcome} (record { answer = a; first = s.first; second = s.second; flags = s.flags }) (weights_outcome s)
+pub refused : (s : WeightsSet) {n : ℕ} → 0 < n → n ≡ weights_refusal s → ◌≡◌ {A = WeightsOutcome} (record { answer = n; first = s.first; second = s.second; flags = s.flags }) (weights_outcome s)
 unfolding weights_outcome weights_leaves
-refused s =
-    turned_back (λ r. weights_leaves r s) (λ a. record { answer = a; first = s.first; second = s.second; flags = s.flags }) (λ n. refl) (weights_refusal s) (measures_of s.measures)
+refused s = turned_back (λ n. weights_leaves n s) (λ n. record { answer = n; first = s.first; second = s.second; flags = s.flags }) (λ n. refl)

@@ -1,9 +1,10 @@
 -- The shapes by their cases, and a slot by the values of its shape.
 use mathlib.Core.Path.{◌≡◌, refl, ◌∙◌}
 use mathlib.Core.Bool.{Bool, true, false, cond}
+use mathlib.Core.List.{List, [], ◌∷◌}
 use Prim.Native.Nat.{ℕ}
 use lib.Ieee.{Float, lt, le}
-use Rattle.phonon.specs.Number.{◌⊕◌, ◌⊖◌, ◌⊗◌, ◌⊘◌, f0, f1, f2}
+use Rattle.phonon.specs.Number.{◌⊕◌, ◌⊖◌, ◌⊗◌, ◌⊘◌, f0, f1, f2, at}
 use Rattle.phonon.specs.Exp.{exp}
 use Rattle.integration_weights.specs.declared.Shape.{Shape}
 use Rattle.integration_weights.specs.declared.Shape.TheVariants.{Gaussian}
@@ -39,6 +40,14 @@ module _ (w d : Float) {b : Bool} (p : b ≡ lt (f8 ⊗ w) (magnitude d)) where
       by : (t : Bool) → b ≡ t → v ≡ shape_at (Gaussian w) d
       by true z = (rw z at r) ∙ far z
       by false z = (rw z at r) ∙ near z (rw (rw z at h) at q)
+
+-- ---- two values side by side
+
+pub pair : {a b c d : Float} → a ≡ c → b ≡ d → a ∷ b ∷ [] ≡ c ∷ d ∷ []
+pair p q = rw (p, q) refl
+
+pub pair_at : {l : List Float} {a b : Float} → l ≡ a ∷ b ∷ [] → (at l 0 ≡ a) × (at l 1 ≡ b)
+pair_at e = rw e (refl, refl)
 
 -- ---- a slot
 

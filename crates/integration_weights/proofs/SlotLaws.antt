@@ -7,13 +7,13 @@ use borrow.Rule.Slice.PartMut.{put_mid}
 use lib.IntN.{ℤ}
 use lib.Ieee.{Float}
 use lib.ListN.{length, set}
-use Rattle.phonon.specs.Number.{◌⊕◌, ◌⊖◌, index, at, int, table}
+use Rattle.phonon.specs.Number.{◌⊕◌, ◌⊖◌, index, at, int}
 use Rattle.phonon.proofs.Laws.{table_ext, div_of, mod_of}
 use Rattle.planes.proofs.FilledLaws.{Filled, filled_none, filled_more, filled_part, filled_whole}
 use Rattle.integration_weights.specs.declared.Shape.{Shape}
 use Rattle.integration_weights.specs.Shapes.{shape_at}
-use Rattle.integration_weights.specs.Weights.{SlotWeights, flag_of, weights_from}
-use Rattle.integration_weights.specs.Rows.{SameLength, row_slot, block_slot, slot_in}
+use Rattle.integration_weights.specs.Weights.{SlotWeights, flag_of}
+use Rattle.integration_weights.specs.Rows.{SameLength, Written, row_slot, block_slot, slot_in}
 use Rattle.integration_weights.proofs.ShapeLaws.{first_is, second_is, flag_is}
 
 -- the first i of the slots f 0, .., f (n - 1) are written
@@ -22,37 +22,27 @@ pub record Slots (f : ℕ → SlotWeights) (n i : ℕ) (a b : List Float) (c : L
   pub second : Filled (λ p. (f p).second) n b i
   pub flags : Filled (λ p. (f p).flag) n c i
 
--- all of them, as the contracts have it
-abbrev pub All : (ℕ → SlotWeights) → ℕ → List Float → List Float → List ℕ → Type 0
-All f n a b c = (a ≡ table n (λ p. (f p).first)) × (b ≡ table n (λ p. (f p).second)) × (c ≡ table n (λ p. (f p).flag))
-
 module _ (f : ℕ → SlotWeights) (n : ℕ) where
   pub slots_none : {a b : List Float} {c : List ℕ} → SameLength n (length a) (length b) (length c) → Slots f n 0 a b c
   slots_none h = record { first = filled_none h.first; second = filled_none h.second; flags = filled_none h.flags }
 
   module _ {i : ℕ} {a b : List Float} {c : List ℕ} (d : Slots f n i a b c) where
     -- a part more: the slots g 0, .., g (m - 1), which were written in parts that were lent
-    pub slots_part : (m : ℕ) (g : ℕ → SlotWeights) {x y : List Float} {z : List ℕ} → i + m ≤ n → ((k : ℕ) → k < m → g k ≡ f (i + k)) → All g m x y z
+    pub slots_part : (m : ℕ) (g : ℕ → SlotWeights) {x y : List Float} {z : List ℕ} → i + m ≤ n → ((k : ℕ) → k < m → g k ≡ f (i + k)) → Written g m x y z
         → Slots f n (i + m) (put_mid i (i + m - i) a x) (put_mid i (i + m - i) b y) (put_mid i (i + m - i) c z)
     slots_part m g h e w =
         record {
-          first = filled_part m h (w.0 ∙ table_ext m _ _ (λ k l. ap (λ v. v.first) (e k l))) d.first;
-          second = filled_part m h (w.1 ∙ table_ext m _ _ (λ k l. ap (λ v. v.second) (e k l))) d.second;
-          flags = filled_part m h (w.2 ∙ table_ext m _ _ (λ k l. ap (λ v. v.flag) (e k l))) d.flags;
+          first = filled_part m h (w.first ∙ table_ext m _ _ (λ k l. ap (λ v. v.first) (e k l))) d.first;
+          second = filled_part m h (w.second ∙ table_ext m _ _ (λ k l. ap (λ v. v.second) (e k l))) d.second;
+          flags = filled_part m h (w.flags ∙ table_ext m _ _ (λ k l. ap (λ v. v.flag) (e k l))) d.flags;
         }
 
     -- by another count of them
     pub slots_at : {j : ℕ} → i ≡ j → Slots f n j a b c
     slots_at e = rw e at d
 
-    pub slots_all : n ≤ i → All f n a b c
-    slots_all h = (filled_whole h d.first, filled_whole h d.second, filled_whole h d.flags)
-
--- one slot more, from the values p, q and r
-pub slots_from : (p q r : ℕ → Float) (n : ℕ) {k : ℕ} {a b : List Float} {c : List ℕ} {a' b' : List Float} {c' : List ℕ} → Slots (λ i. weights_from (p i) (q i) (r i)) n k a b c → k < n
-    → a' ≡ set a k (p k) → b' ≡ set b k (q k ⊖ r k) → c' ≡ set c k (flag_of (p k) (q k) (r k)) → Slots (λ i. weights_from (p i) (q i) (r i)) n (k + 1) a' b' c'
-unfolding weights_from
-slots_from p q r n d h ea eb ec = record { first = rw ea (filled_more h refl d.first); second = rw eb (filled_more h refl d.second); flags = rw ec (filled_more h refl d.flags) }
+    pub slots_all : n ≤ i → Written f n a b c
+    slots_all h = record { first = filled_whole h d.first; second = filled_whole h d.second; flags = filled_whole h d.flags }
 
 -- ---- a row
 
@@ -83,10 +73,6 @@ module _ (s : Shape) (x y : Float) (leg : List Float) where
   row_two {k} d h v w ea eb ec =
       let e : k + 1 + 1 ≡ k + 2 = omega arith in
       rw e at (row_one (row_one d (omega arith) v refl refl refl) h w ea eb ec)
-
-  -- of the same shape, by its case
-  pub all_of : {t : Shape} {a b : List Float} {c : List ℕ} → s ≡ t → All (row_slot t x y leg) (length leg) a b c → All (row_slot s x y leg) (length leg) a b c
-  all_of e w = rw e w
 
 -- ---- a block of rows, and the blocks
 

@@ -34,10 +34,6 @@ held (Box w) d = cond-fits binary64 (le (magnitude d) w) _ f0 (div-fits binary64
 value_of : (s : Shape) (d : Float) {p : Float} → Good s → T (not (is_nan d)) → p ≡ shape_at s d → Value p
 value_of s d g n e = subst Value (sym e) (record { unsigned = (nonnegative_shapes s d g.width g.above n).unsigned; held = held s d })
 
--- a good shape, by its case
-pub good_of : {s t : Shape} → s ≡ t → Good s → Good t
-good_of e g = rw e at g
-
 -- the three of a slot
 pub values_good : (s : Shape) (x y : Float) (leg : List Float) (k : ℕ) {p q r : Float} → Good s → finite x ≡ true → finite y ≡ true → finite (at leg k) ≡ true → Values s x y leg k p q r → Value p × Value q × Value r
 values_good s x y leg k g fx fy fz v =

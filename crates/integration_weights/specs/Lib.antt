@@ -6,4 +6,3 @@ pub mod Refusal
 pub mod Doors
 pub mod Claims
 pub mod Rows
-pub mod Near

@@ -3,7 +3,7 @@
 use Rattle.std.specs.Prelude.{ℕ, ◌*◌, ◌/◌, ◌%◌, ◌<◌, ◌≡◌, true, List, ℤ, T, Float, length}
 use Rattle.std.specs.Float.{binary64}
 use Rattle.std.specs.Float.Ieee.{fits, lt}
-use Rattle.phonon.specs.Number.{f0, index, at, int}
+use Rattle.phonon.specs.Number.{f0, index, at, int, table}
 use Rattle.phonon.specs.Tests.{finite}
 use Rattle.floats.specs.Sign.{Unsigned}
 use Rattle.integration_weights.specs.declared.Shape.{Shape}
@@ -28,6 +28,12 @@ pub record SameLength (n a b c : ℕ) : Type 0 where
   pub first : a ≡ n
   pub second : b ≡ n
   pub flags : c ≡ n
+
+-- they hold the slots f 0, .., f (n - 1)
+pub record Written (f : ℕ → SlotWeights) (n : ℕ) (a b : List Float) (c : List ℕ) : Type 0 where
+  pub first : a ≡ table n (λ k. (f k).first)
+  pub second : b ≡ table n (λ k. (f k).second)
+  pub flags : c ≡ table n (λ k. (f k).flag)
 
 -- ---- what the work may take for granted of an accepted set
 

@@ -1,61 +1,48 @@
-// The tests of the door, in groups: each gives the lowest number of its tests that fail, or 0.
+// The tests of the door, in groups: each answers with the lowest number of its tests that fail.
 ghost use Rattle.std.specs.Prelude.{◌≡◌, true};
-ghost use Rattle.phonon.specs.Sets.{measures_of};
+ghost use Rattle.phonon.specs.Answers.{number_of};
 ghost use Rattle.phonon.specs.Refusal.{measures_ok, lowest};
-ghost use Rattle.checks.specs.Answers.{checked_of};
 ghost use Rattle.integration_weights.specs.Refusal.{band_tests, weight_tests, width_tests, weights_refusal};
 
 use crate::Shape;
 use crate::shapes::width_of;
-use checks::groups::points_number;
+use checks::groups::check_points;
 use checks::measures::measures_ok;
-use checks::verdict::{Checked, checked_of, lower_of};
-use phonon::{Measures, TotalsMeasures};
+use checks::verdict::{lower_of, require};
+use phonon::{Measures, Refusal, TotalsMeasures};
 
 // 2, 3 and 4 of the bands table and the frequencies. The measures have been checked before.
-fn bands_number(m: Measures, bands: &[i64], frequencies: &[f64]) -> u8
+fn check_bands(m: Measures, bands: &[i64], frequencies: &[f64]) -> Result<(), Refusal>
     requires { measures_ok m ≡ true }
-    ensures { result ≡ lowest (band_tests m bands.now frequencies.now) }
+    ensures { number_of result ≡ lowest (band_tests m bands.now frequencies.now) }
 {
     let nb = 3 * m.atoms;
     let sized = (bands.len() == m.first) & (frequencies.len() == m.grid * nb);
-    if !sized {
-        return 2;
-    }
-    if !checks::all_within(0, (nb - 1) as i64, bands) {
-        return 3;
-    }
-    if !checks::all_finite(frequencies) {
-        return 4;
-    }
-    0
+    require(sized, Refusal::Length)?;
+    require(
+        checks::all_within(0, (nb - 1) as i64, bands),
+        Refusal::Index,
+    )?;
+    require(checks::all_finite(frequencies), Refusal::NotFinite)
 }
 
 // 2 of first weights, second weights and flags of n slots, by their lengths.
-fn weights_number(n: usize, first: usize, second: usize, flags: usize) -> u8
-    ensures { result ≡ lowest (weight_tests n first second flags) }
+fn check_weights(n: usize, first: usize, second: usize, flags: usize) -> Result<(), Refusal>
+    ensures { number_of result ≡ lowest (weight_tests n first second flags) }
 {
     let sized = (first == n) & (second == n) & (flags == n);
-    if !sized {
-        return 2;
-    }
-    0
+    require(sized, Refusal::Length)
 }
 
 // 4 and 13 of the width.
-fn width_number(w: f64) -> u8
-    ensures { result ≡ lowest (width_tests w) }
+fn check_width(w: f64) -> Result<(), Refusal>
+    ensures { number_of result ≡ lowest (width_tests w) }
 {
-    if !checks::is_finite(w) {
-        return 4;
-    }
-    if !(0.0 < w) {
-        return 13;
-    }
-    0
+    require(checks::is_finite(w), Refusal::NotFinite)?;
+    require(0.0 < w, Refusal::Width)
 }
 
-// All of them. A supercell and vectors are not handed in: their measures stand at 1.
+// All of them.
 pub fn check(
     m: TotalsMeasures,
     shape: Shape,
@@ -65,36 +52,24 @@ pub fn check(
     first: &[f64],
     second: &[f64],
     flags: &[u8],
-) -> Checked
-    ensures { result ≡ checked_of
-        (weights_refusal (record {
-          measures = m;
-          shape = shape;
-          triplet = triplet;
-          bands = bands.now;
-          frequencies = frequencies.now;
-          first = first.now;
-          second = second.now;
-          flags = flags.now;
-        })) (measures_of m) }
+) -> Result<(), Refusal>
+    ensures { number_of result ≡ weights_refusal (record {
+      measures = m;
+      shape = shape;
+      triplet = triplet;
+      bands = bands.now;
+      frequencies = frequencies.now;
+      first = first.now;
+      second = second.now;
+      flags = flags.now;
+    }) }
 {
-    let all = Measures {
-        atoms: m.atoms,
-        supercell: 1,
-        first: m.first,
-        grid: m.grid,
-        vectors: 1,
-    };
-    if !measures_ok(all) {
-        return Checked::Bad(1);
-    }
+    let all = Measures::from(m);
+    require(measures_ok(all), Refusal::Measure)?;
     let nb = 3 * m.atoms;
-    let tables = bands_number(all, bands, frequencies);
-    let lent = weights_number(m.first * nb * nb, first.len(), second.len(), flags.len());
-    let points = points_number(m.grid, &triplet);
-    let width = width_number(width_of(shape));
-    checked_of(
-        lower_of(tables, lower_of(lent, lower_of(points, width))),
-        all,
-    )
+    let tables = check_bands(all, bands, frequencies);
+    let lent = check_weights(m.first * nb * nb, first.len(), second.len(), flags.len());
+    let points = check_points(m.grid, &triplet);
+    let width = check_width(width_of(shape));
+    lower_of(tables, lower_of(lent, lower_of(points, width)))
 }

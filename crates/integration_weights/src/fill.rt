@@ -1,14 +1,13 @@
 // The slots of one triplet: blocks of a position of the bands table, rows of a band of the second leg, in a row the bands of the third.
-ghost use Rattle.std.specs.Prelude.{◌≡◌, true, ℕ, ◌+◌, ◌*◌, ◌<◌, ◌≤◌, length, set};
-ghost use Rattle.phonon.specs.Number.{◌⊖◌, index, int, table};
+ghost use Rattle.std.specs.Prelude.{◌≡◌, true, ℕ, ◌*◌, ◌<◌, ◌≤◌, length};
+ghost use Rattle.phonon.specs.Number.{index, int};
 ghost use Rattle.phonon.specs.Tests.{finite};
-ghost use Rattle.integration_weights.specs.declared.Shape.TheVariants.{Gaussian};
 ghost use Rattle.integration_weights.specs.Weights.{flag_of};
-ghost use Rattle.integration_weights.specs.Rows.{SameLength, row_slot, block_slot, slot_in, Good, Finite, Value};
+ghost use Rattle.integration_weights.specs.Rows.{SameLength, Written, row_slot, block_slot, slot_in, Good, Finite, Value};
 
 use crate::Shape;
-use crate::shapes::{gaussian_at, gaussian_two, shape_at, shape_two};
-use funcs::Two;
+use crate::shapes::{Bell, Broadening};
+use phonon::Legs;
 use planes::index_at;
 
 // Of the shape's three values: since none is negative, their sum is zero exactly if all are. One comparison takes much less time
@@ -23,60 +22,11 @@ fn flag_of(a: f64, b: f64, c: f64) -> u8
     1
 }
 
-// Both weights and the flag of slot k, from the shape's three values there.
-pub fn put_one(
-    a: f64,
-    b: f64,
-    c: f64,
-    k: usize,
-    first: &mut [f64],
-    second: &mut [f64],
-    flags: &mut [u8],
-)
-    requires { (k < length first.old) × (k < length second.old) × (k < length flags.old) × Value a × Value b × Value c }
-    ensures { (first.new ≡ set first.old k a)
-        × (second.new ≡ set second.old k (b ⊖ c))
-        × (flags.new ≡ set flags.old k (flag_of a b c)) }
-{
-    first[k] = a;
-    second[k] = b - c;
-    flags[k] = flag_of(a, b, c);
-}
-
-// Of slots k and k + 1. Each slice takes its two entries in turn, so that they are stored at once.
-fn put_two(
-    a: Two,
-    b: Two,
-    c: Two,
-    k: usize,
-    first: &mut [f64],
-    second: &mut [f64],
-    flags: &mut [u8],
-)
-    requires { (k + 1 < length first.old)
-        × (k + 1 < length second.old)
-        × (k + 1 < length flags.old)
-        × Value a.one
-        × Value b.one
-        × Value c.one
-        × Value a.two
-        × Value b.two
-        × Value c.two }
-    ensures { (first.new ≡ set (set first.old k a.one) (k + 1) a.two)
-        × (second.new ≡ set (set second.old k (b.one ⊖ c.one)) (k + 1) (b.two ⊖ c.two))
-        × (flags.new ≡ set (set flags.old k (flag_of a.one b.one c.one)) (k + 1) (flag_of a.two b.two c.two)) }
-{
-    first[k] = a.one;
-    first[k + 1] = a.two;
-    second[k] = b.one - c.one;
-    second[k + 1] = b.two - c.two;
-    flags[k] = flag_of(a.one, b.one, c.one);
-    flags[k + 1] = flag_of(a.two, b.two, c.two);
-}
-
-// A row of any shape, two slots at a time: x and y are the frequencies of its bands of the first two legs, leg has those of the third.
-fn shape_row(
-    s: Shape,
+// A row, two slots at a time: x and y are the frequencies of its bands of the first two legs, leg has those of the third.
+// First, second and flags stand side by side, here and below: of a struct of the three, parts are not lent yet by the borrow check, and
+// by value its contract says what is left in them by position alone.
+fn row<B: Broadening>(
+    of: B,
     x: f64,
     y: f64,
     leg: &[f64],
@@ -85,75 +35,42 @@ fn shape_row(
     flags: &mut [u8],
 )
     requires { SameLength (length leg.now) (length first.old) (length second.old) (length flags.old)
-        × Good s
+        × Good (B.shape of)
         × (finite x ≡ true)
         × (finite y ≡ true)
         × Finite leg.now }
-    ensures { (first.new ≡ table (length leg.now) (λ k. (row_slot s x y leg.now k).first))
-        × (second.new ≡ table (length leg.now) (λ k. (row_slot s x y leg.now k).second))
-        × (flags.new ≡ table (length leg.now) (λ k. (row_slot s x y leg.now k).flag)) }
+    ensures { Written (row_slot (B.shape of) x y leg.now) (length leg.now) first.new second.new flags.new }
 {
     let n = leg.len();
     let u = x - y;
     let v = x + y;
-    let mut k = 0;
-    while k + 1 < n {
+    for i in 0..n / 2 {
+        let k = 2 * i;
         let z = leg[k];
         let t = leg[k + 1];
-        let a = shape_two(s, u - z, u - t);
-        let b = shape_two(s, v - z, v - t);
-        let c = shape_two(s, u + z, u + t);
-        put_two(a, b, c, k, first, second, flags);
-        k += 2;
+        let a = of.two(u - z, u - t);
+        let b = of.two(v - z, v - t);
+        let c = of.two(u + z, u + t);
+        // Each slice takes its two entries in turn, so that they are stored at once.
+        first[k] = a[0];
+        first[k + 1] = a[1];
+        second[k] = b[0] - c[0];
+        second[k + 1] = b[1] - c[1];
+        flags[k] = flag_of(a[0], b[0], c[0]);
+        flags[k + 1] = flag_of(a[1], b[1], c[1]);
     }
-    if k < n {
+    if n % 2 == 1 {
+        let k = n - 1;
         let z = leg[k];
-        let a = shape_at(s, u - z);
-        let b = shape_two(s, v - z, u + z);
-        put_one(a, b.one, b.two, k, first, second, flags);
+        let a = of.at(u - z);
+        let b = of.two(v - z, u + z);
+        first[k] = a;
+        second[k] = b[0] - b[1];
+        flags[k] = flag_of(a, b[0], b[1]);
     }
 }
 
-// Of a Gaussian: two exponentials are worked side by side.
-fn gaussian_row(
-    w: f64,
-    x: f64,
-    y: f64,
-    leg: &[f64],
-    first: &mut [f64],
-    second: &mut [f64],
-    flags: &mut [u8],
-)
-    requires { SameLength (length leg.now) (length first.old) (length second.old) (length flags.old)
-        × Good (Gaussian w)
-        × (finite x ≡ true)
-        × (finite y ≡ true)
-        × Finite leg.now }
-    ensures { (first.new ≡ table (length leg.now) (λ k. (row_slot (Gaussian w) x y leg.now k).first))
-        × (second.new ≡ table (length leg.now) (λ k. (row_slot (Gaussian w) x y leg.now k).second))
-        × (flags.new ≡ table (length leg.now) (λ k. (row_slot (Gaussian w) x y leg.now k).flag)) }
-{
-    let n = leg.len();
-    let u = x - y;
-    let v = x + y;
-    let mut k = 0;
-    while k + 1 < n {
-        let z = leg[k];
-        let t = leg[k + 1];
-        let a = gaussian_two(w, u - z, u - t);
-        let b = gaussian_two(w, v - z, v - t);
-        let c = gaussian_two(w, u + z, u + t);
-        put_two(a, b, c, k, first, second, flags);
-        k += 2;
-    }
-    if k < n {
-        let z = leg[k];
-        let a = gaussian_at(w, u - z);
-        let b = gaussian_two(w, v - z, u + z);
-        put_one(a, b.one, b.two, k, first, second, flags);
-    }
-}
-
+// Of a Gaussian two exponentials are worked side by side.
 fn fill_row(
     s: Shape,
     x: f64,
@@ -168,13 +85,11 @@ fn fill_row(
         × (finite x ≡ true)
         × (finite y ≡ true)
         × Finite leg.now }
-    ensures { (first.new ≡ table (length leg.now) (λ k. (row_slot s x y leg.now k).first))
-        × (second.new ≡ table (length leg.now) (λ k. (row_slot s x y leg.now k).second))
-        × (flags.new ≡ table (length leg.now) (λ k. (row_slot s x y leg.now k).flag)) }
+    ensures { Written (row_slot s x y leg.now) (length leg.now) first.new second.new flags.new }
 {
     match s {
-        Shape::Gaussian(w) => gaussian_row(w, x, y, leg, first, second, flags),
-        _ => shape_row(s, x, y, leg, first, second, flags),
+        Shape::Gaussian(width) => row(Bell { width }, x, y, leg, first, second, flags),
+        _ => row(s, x, y, leg, first, second, flags),
     }
 }
 
@@ -193,11 +108,10 @@ fn fill_block(
         × (finite x ≡ true)
         × Finite leg1.now
         × Finite leg2.now }
-    ensures { (first.new ≡ table (length leg1.now * length leg2.now) (λ q. (block_slot s x leg1.now leg2.now q).first))
-        × (second.new ≡ table (length leg1.now * length leg2.now) (λ q. (block_slot s x leg1.now leg2.now q).second))
-        × (flags.new ≡ table (length leg1.now * length leg2.now) (λ q. (block_slot s x leg1.now leg2.now q).flag)) }
+    ensures { Written (block_slot s x leg1.now leg2.now) (length leg1.now * length leg2.now) first.new second.new flags.new }
 {
     let n = leg2.len();
+    // By places, as the blocks below: three chunks_exact_mut zipped with the bands are no plainer, and ask for rows that are not empty.
     for j in 0..leg1.len() {
         let from = j * n;
         let to = from + n;
@@ -213,42 +127,36 @@ fn fill_block(
     }
 }
 
-// All slots: leg0, leg1 and leg2 are the frequencies at the triplet's points.
+// All slots: legs has the frequencies at the triplet's points.
 pub fn fill_weights(
     s: Shape,
     bands: &[i64],
-    leg0: &[f64],
-    leg1: &[f64],
-    leg2: &[f64],
+    legs: Legs<&[f64]>,
     first: &mut [f64],
     second: &mut [f64],
     flags: &mut [u8],
 )
-    requires { (length leg1.now ≤ 3000)
-        × (length leg2.now ≤ 3000)
-        × ((b : ℕ) → b < length bands.now → index (int bands.now b) < length leg0.now)
-        × SameLength (length bands.now * (length leg1.now * length leg2.now)) (length first.old) (length second.old) (length flags.old)
+    requires { (length legs.leg1.now ≤ 3000)
+        × (length legs.leg2.now ≤ 3000)
+        × ((b : ℕ) → b < length bands.now → index (int bands.now b) < length legs.leg0.now)
+        × SameLength (length bands.now * (length legs.leg1.now * length legs.leg2.now)) (length first.old) (length second.old) (length flags.old)
         × Good s
-        × Finite leg0.now
-        × Finite leg1.now
-        × Finite leg2.now }
-    ensures { (first.new ≡ table (length bands.now * (length leg1.now * length leg2.now))
-        (λ p. (slot_in s bands.now leg0.now leg1.now leg2.now p).first))
-        × (second.new ≡ table (length bands.now * (length leg1.now * length leg2.now))
-        (λ p. (slot_in s bands.now leg0.now leg1.now leg2.now p).second))
-        × (flags.new ≡ table (length bands.now * (length leg1.now * length leg2.now))
-        (λ p. (slot_in s bands.now leg0.now leg1.now leg2.now p).flag)) }
+        × Finite legs.leg0.now
+        × Finite legs.leg1.now
+        × Finite legs.leg2.now }
+    ensures { Written (slot_in s bands.now legs.entry.leg0.now legs.entry.leg1.now legs.entry.leg2.now)
+        (length bands.now * (length legs.entry.leg1.now * length legs.entry.leg2.now)) first.new second.new flags.new }
 {
-    let area = leg1.len() * leg2.len();
+    let area = legs.leg1.len() * legs.leg2.len();
     for b in 0..bands.len() {
-        let x = leg0[index_at(bands, b)];
+        let x = legs.leg0[index_at(bands, b)];
         let from = b * area;
         let to = from + area;
         fill_block(
             s,
             x,
-            leg1,
-            leg2,
+            legs.leg1,
+            legs.leg2,
             &mut first[from..to],
             &mut second[from..to],
             &mut flags[from..to],

@@ -3,17 +3,16 @@
 
 mod check;
 mod fill;
-mod gaussians;
 mod shapes;
 
 ghost use Rattle.std.specs.Prelude.{◌≡◌};
+ghost use Rattle.phonon.specs.Answers.{number_of};
 ghost use Rattle.integration_weights.specs.Doors.{WeightsOutcome, weights_outcome};
 
 use crate::check::check;
 use crate::fill::fill_weights;
-use checks::verdict::{Checked, answer_of};
-use phonon::{Answer, TotalsMeasures};
-use planes::{index_of, leg_frequencies};
+use phonon::{Legs, Refusal, TotalsMeasures};
+use planes::{index_of, part_of};
 
 // What stands for the delta function of energy conservation: a Gaussian of a width, a Lorentzian or a box of a half-width.
 #[derive(Clone, Copy)]
@@ -33,9 +32,9 @@ pub fn integration_weights_at_triplet(
     first: &mut [f64],
     second: &mut [f64],
     flags: &mut [u8],
-) -> Answer
+) -> Result<(), Refusal>
     ensures { ◌≡◌ {A = WeightsOutcome}
-        (record { answer = result; first = first.new; second = second.new; flags = flags.new })
+        (record { answer = number_of result; first = first.new; second = second.new; flags = flags.new })
         (weights_outcome (record {
           measures = m;
           shape = shape;
@@ -47,23 +46,16 @@ pub fn integration_weights_at_triplet(
           flags = flags.old;
         })) }
 {
-    let checked = check(m, shape, triplet, bands, frequencies, first, second, flags);
-    let Checked::Good(m) = checked else {
-        return answer_of(checked);
-    };
+    check(m, shape, triplet, bands, frequencies, first, second, flags)?;
     let n = 3 * m.atoms;
     let g0 = index_of(triplet[0]);
     let g1 = index_of(triplet[1]);
     let g2 = index_of(triplet[2]);
-    fill_weights(
-        shape,
-        bands,
-        leg_frequencies(frequencies, g0, n),
-        leg_frequencies(frequencies, g1, n),
-        leg_frequencies(frequencies, g2, n),
-        first,
-        second,
-        flags,
-    );
-    Answer::Accepted
+    let legs = Legs {
+        leg0: part_of(frequencies, g0, n),
+        leg1: part_of(frequencies, g1, n),
+        leg2: part_of(frequencies, g2, n),
+    };
+    fill_weights(shape, bands, legs, first, second, flags);
+    Ok(())
 }

@@ -13,7 +13,7 @@ use Rattle.integration_weights.specs.declared.Shape.{Shape}
 use Rattle.integration_weights.specs.declared.Shape.TheVariants.{Gaussian, Lorentzian, Box}
 use Rattle.integration_weights.specs.Sets.{WeightsSet}
 use Rattle.integration_weights.specs.Doors.{weights_outcome}
-use Rattle.phonon.specs.Doors.{number_of, StrengthsOutcome, triplet_outcome, list_outcome, totals_outcome, joined_outcome}
+use Rattle.phonon.specs.Doors.{StrengthsOutcome, triplet_outcome, list_outcome, totals_outcome, joined_outcome}
 
 -- ---- choices: 0 and 1, of a shape 0 to 2, in the order of the enums. No other number is known.
 
@@ -68,7 +68,7 @@ pub record WeightsAnswer : Type 0 where
 
 -- from the outcome of a door of the strengths, with the strengths and the work buffer as they were
 unfoldable pub strengths_answer : Bool → StrengthsOutcome → List Float → List Float → Strengths
-strengths_answer true o strengths work = record { answer = number_of o.answer; strengths = o.strengths; work = o.work }
+strengths_answer true o strengths work = record { answer = o.answer; strengths = o.strengths; work = o.work }
 strengths_answer false o strengths work = record { answer = 255; strengths = strengths; work = work }
 
 abbrev pub triplet_answer : Bool → TripletSet → Strengths
@@ -78,13 +78,13 @@ abbrev pub list_answer : Bool → ListSet → Strengths
 list_answer b s = strengths_answer b (list_outcome s) s.strengths s.work
 
 unfoldable pub totals_answer : Bool → TotalsSet → Totals
-totals_answer true s = record { answer = number_of (totals_outcome s).answer; totals = (totals_outcome s).totals }
+totals_answer true s = record { answer = (totals_outcome s).answer; totals = (totals_outcome s).totals }
 totals_answer false s = record { answer = 255; totals = s.totals }
 
 unfoldable pub joined_answer : Bool → JoinedSet → Joined
-joined_answer true s = record { answer = number_of (joined_outcome s).answer; strengths = (joined_outcome s).strengths; totals = (joined_outcome s).totals; work = (joined_outcome s).work }
+joined_answer true s = record { answer = (joined_outcome s).answer; strengths = (joined_outcome s).strengths; totals = (joined_outcome s).totals; work = (joined_outcome s).work }
 joined_answer false s = record { answer = 255; strengths = s.strengths; totals = s.totals; work = s.work }
 
 unfoldable pub weights_answer : Bool → WeightsSet → WeightsAnswer
-weights_answer true s = record { answer = number_of (weights_outcome s).answer; first = (weights_outcome s).first; second = (weights_outcome s).second; flags = (weights_outcome s).flags }
+weights_answer true s = record { answer = (weights_outcome s).answer; first = (weights_outcome s).first; second = (weights_outcome s).second; flags = (weights_outcome s).flags }
 weights_answer false s = record { answer = 255; first = s.first; second = s.second; flags = s.flags }

@@ -1,85 +1,72 @@
 // The doors for programs in C and Rust: choices as numbers, arrays of fixed length by reference, one number as the answer.
 #![tactic(auto)]
 
-ghost use Rattle.std.specs.Prelude.{◌≡◌};
+ghost use Rattle.std.specs.Prelude.{◌≡◌, cond, Some, None, slice_get};
 ghost use Rattle.wirambolo_c.specs.Foreign as Foreign;
 ghost use Rattle.wirambolo_c.specs.Foreign.{Strengths, Totals, Joined, WeightsAnswer};
 
 use integration_weights::Shape;
-use phonon::{Anchoring, Bath, Form, Measures, Settings, Symmetry, TotalsMeasures, Weights};
-use refusals::number_of;
+use phonon::{
+    Anchoring, Bath, Crystal, Forces, Form, Grid, IntegrationWeights, Measures, Phonons, Settings,
+    Symmetry, Tables, TotalsMeasures, Weights, number_of,
+};
 
 // ---- choices
 
-fn is_known(x: u8) -> bool
-    ensures { result ≡ Foreign.known x }
+// The answer to a call with a choice that is not known.
+const UNKNOWN: u8 = 255;
+
+// The choice of a number: that place of a list of them.
+fn choice<T: Copy, const N: usize>(number: u8, of: [T; N]) -> Option<T>
+    ensures { result ≡ slice_get of number }
 {
-    x <= 1
+    of.get(number as usize).copied()
 }
 
-fn anchoring_of(x: u8) -> Anchoring
-    ensures { result ≡ Foreign.anchoring_of x }
+fn weights_of(x: u8) -> Option<Weights>
+    ensures { result ≡ cond (Foreign.known x) (Some (Foreign.weights_of x)) None }
 {
-    if x == 0 {
-        return Anchoring::Plain;
-    }
-    Anchoring::Averaged
-}
-
-fn form_of(x: u8) -> Form
-    ensures { result ≡ Foreign.form_of x }
-{
-    if x == 0 {
-        return Form::Compact;
-    }
-    Form::Full
-}
-
-fn symmetry_of(x: u8) -> Symmetry
-    ensures { result ≡ Foreign.symmetry_of x }
-{
-    if x == 0 {
-        return Symmetry::Off;
-    }
-    Symmetry::Symmetrized
-}
-
-fn weights_of(x: u8) -> Weights
-    ensures { result ≡ Foreign.weights_of x }
-{
-    if x == 0 {
-        return Weights::PerSlot;
-    }
-    Weights::AtFrequencyPoint
-}
-
-fn is_shape_known(x: u8) -> bool
-    ensures { result ≡ Foreign.shape_known x }
-{
-    x <= 2
+    choice(x, [Weights::PerSlot, Weights::AtFrequencyPoint])
 }
 
 // A shape, with its width.
-fn shape_of(x: u8, width: f64) -> Shape
-    ensures { result ≡ Foreign.shape_of x width }
+fn shape_of(x: u8, width: f64) -> Option<Shape>
+    ensures { result ≡ cond (Foreign.shape_known x) (Some (Foreign.shape_of x width)) None }
 {
-    if x == 0 {
-        return Shape::Gaussian(width);
-    }
-    if x == 1 {
-        return Shape::Lorentzian(width);
-    }
-    Shape::Box(width)
+    choice(
+        x,
+        [
+            Shape::Gaussian(width),
+            Shape::Lorentzian(width),
+            Shape::Box(width),
+        ],
+    )
 }
 
-// Whether the three choices of the tables are known.
-fn are_choices_known(anchoring: u8, form: u8, symmetry: u8) -> bool
-    ensures { result ≡ Foreign.choices_known anchoring form symmetry }
-{
-    is_known(anchoring) & is_known(form) & is_known(symmetry)
+// The three choices of the tables.
+#[derive(Clone, Copy)]
+struct Choices {
+    anchoring: Anchoring,
+    form: Form,
+    symmetry: Symmetry,
 }
 
-// ---- the doors
+fn choices_of(anchoring: u8, form: u8, symmetry: u8) -> Option<Choices>
+    ensures { result ≡ cond (Foreign.choices_known anchoring form symmetry)
+        (Some (record {
+          anchoring = Foreign.anchoring_of anchoring;
+          form = Foreign.form_of form;
+          symmetry = Foreign.symmetry_of symmetry;
+        })) None }
+{
+    Some(Choices {
+        anchoring: choice(anchoring, [Anchoring::Plain, Anchoring::Averaged])?,
+        form: choice(form, [Form::Compact, Form::Full])?,
+        symmetry: choice(symmetry, [Symmetry::Off, Symmetry::Symmetrized])?,
+    })
+}
+
+// ---- the doors: C hands over each slice by itself, so that each door and its contract name where it belongs
 
 // One triplet.
 #[unsafe(no_mangle)]
@@ -141,44 +128,47 @@ pub extern "C" fn wirambolo_get_interaction_at_triplet(
           work = work.old;
         })) }
 {
-    if !are_choices_known(anchoring, form, symmetry) {
-        return 255;
-    }
-    let m = Measures {
-        atoms: atoms,
-        supercell: supercell,
-        first: first,
-        grid: grid,
-        vectors: vectors_count,
+    let Some(choices) = choices_of(anchoring, form, symmetry) else {
+        return UNKNOWN;
     };
-    let settings = Settings {
-        anchoring: anchoring_of(anchoring),
-        cutoff: cutoff,
-    };
-    number_of(interaction::get_interaction_at_triplet(
-        m,
-        settings,
-        form_of(form),
-        symmetry_of(symmetry),
-        *mesh,
-        *matrix,
-        *triplet,
-        addresses,
-        vectors,
-        multiplicity,
-        p2s,
-        s2p,
-        masses,
+    let tables = Tables {
+        measures: Measures {
+            atoms,
+            supercell,
+            first,
+            grid,
+            vectors: vectors_count,
+        },
+        settings: Settings {
+            anchoring: choices.anchoring,
+            cutoff,
+        },
+        symmetry: choices.symmetry,
+        crystal: Crystal {
+            vectors,
+            multiplicity,
+            masses,
+            forces: Forces {
+                form: choices.form,
+                p2s,
+                s2p,
+                shortest,
+                nonzero,
+                constants,
+            },
+        },
+        grid: Grid {
+            mesh: *mesh,
+            matrix: *matrix,
+            addresses,
+        },
         bands,
-        frequencies,
-        eigenvectors,
-        shortest,
-        nonzero,
-        constants,
-        flags,
-        strengths,
-        work,
-    ))
+        phonons: Phonons {
+            frequencies,
+            eigenvectors,
+        },
+    };
+    number_of(interaction::get_interaction_at_triplet(&tables, *triplet, flags, strengths, work))
 }
 
 // A list of triplets.
@@ -243,45 +233,47 @@ pub extern "C" fn wirambolo_get_interaction(
           work = work.old;
         })) }
 {
-    if !are_choices_known(anchoring, form, symmetry) {
-        return 255;
-    }
-    let m = Measures {
-        atoms: atoms,
-        supercell: supercell,
-        first: first,
-        grid: grid,
-        vectors: vectors_count,
+    let Some(choices) = choices_of(anchoring, form, symmetry) else {
+        return UNKNOWN;
     };
-    let settings = Settings {
-        anchoring: anchoring_of(anchoring),
-        cutoff: cutoff,
-    };
-    number_of(interaction::list::get_interaction(
-        m,
-        settings,
-        form_of(form),
-        symmetry_of(symmetry),
-        *mesh,
-        *matrix,
-        list,
-        triplets,
-        addresses,
-        vectors,
-        multiplicity,
-        p2s,
-        s2p,
-        masses,
+    let tables = Tables {
+        measures: Measures {
+            atoms,
+            supercell,
+            first,
+            grid,
+            vectors: vectors_count,
+        },
+        settings: Settings {
+            anchoring: choices.anchoring,
+            cutoff,
+        },
+        symmetry: choices.symmetry,
+        crystal: Crystal {
+            vectors,
+            multiplicity,
+            masses,
+            forces: Forces {
+                form: choices.form,
+                p2s,
+                s2p,
+                shortest,
+                nonzero,
+                constants,
+            },
+        },
+        grid: Grid {
+            mesh: *mesh,
+            matrix: *matrix,
+            addresses,
+        },
         bands,
-        frequencies,
-        eigenvectors,
-        shortest,
-        nonzero,
-        constants,
-        flags,
-        strengths,
-        work,
-    ))
+        phonons: Phonons {
+            frequencies,
+            eigenvectors,
+        },
+    };
+    number_of(interaction::list::get_interaction(&tables, list, triplets, flags, strengths, work))
 }
 
 // Totals alone.
@@ -317,29 +309,28 @@ pub extern "C" fn wirambolo_imag_self_energy_at_triplet(
           totals = totals.old;
         })) }
 {
-    if !is_known(weights) {
-        return 255;
-    }
-    let m = TotalsMeasures {
-        atoms: atoms,
-        first: first,
-        grid: grid,
+    let Some(weights) = weights_of(weights) else {
+        return UNKNOWN;
     };
+    let m = TotalsMeasures { atoms, first, grid };
     let bath = Bath {
-        weight: weight,
-        temperature: temperature,
+        weight,
+        temperature,
+    };
+    let integration = IntegrationWeights {
+        first: first_weights,
+        second: second_weights,
     };
     number_of(imag_self_energy::imag_self_energy_at_triplet(
         m,
-        weights_of(weights),
+        weights,
         *triplet,
         frequencies,
         cutoff,
         flags,
         strengths,
         bath,
-        first_weights,
-        second_weights,
+        integration,
         totals,
     ))
 }
@@ -414,48 +405,60 @@ pub extern "C" fn wirambolo_joined_at_triplet(
           work = work.old;
         })) }
 {
-    if !are_choices_known(anchoring, form, symmetry) {
-        return 255;
-    }
-    let m = Measures {
-        atoms: atoms,
-        supercell: supercell,
-        first: first,
-        grid: grid,
-        vectors: vectors_count,
+    let Some(choices) = choices_of(anchoring, form, symmetry) else {
+        return UNKNOWN;
     };
-    let settings = Settings {
-        anchoring: anchoring_of(anchoring),
-        cutoff: cutoff,
+    let tables = Tables {
+        measures: Measures {
+            atoms,
+            supercell,
+            first,
+            grid,
+            vectors: vectors_count,
+        },
+        settings: Settings {
+            anchoring: choices.anchoring,
+            cutoff,
+        },
+        symmetry: choices.symmetry,
+        crystal: Crystal {
+            vectors,
+            multiplicity,
+            masses,
+            forces: Forces {
+                form: choices.form,
+                p2s,
+                s2p,
+                shortest,
+                nonzero,
+                constants,
+            },
+        },
+        grid: Grid {
+            mesh: *mesh,
+            matrix: *matrix,
+            addresses,
+        },
+        bands,
+        phonons: Phonons {
+            frequencies,
+            eigenvectors,
+        },
     };
     let bath = Bath {
-        weight: weight,
-        temperature: temperature,
+        weight,
+        temperature,
+    };
+    let integration = IntegrationWeights {
+        first: first_weights,
+        second: second_weights,
     };
     number_of(joined::joined_at_triplet(
-        m,
-        settings,
-        form_of(form),
-        symmetry_of(symmetry),
-        bath,
-        *mesh,
-        *matrix,
+        &tables,
         *triplet,
-        addresses,
-        vectors,
-        multiplicity,
-        p2s,
-        s2p,
-        masses,
-        bands,
-        frequencies,
-        eigenvectors,
-        shortest,
-        nonzero,
-        constants,
         flags,
-        first_weights,
-        second_weights,
+        bath,
+        integration,
         strengths,
         totals,
         work,
@@ -490,17 +493,13 @@ pub extern "C" fn wirambolo_integration_weights_at_triplet(
           flags = flags.old;
         })) }
 {
-    if !is_shape_known(shape) {
-        return 255;
-    }
-    let m = TotalsMeasures {
-        atoms: atoms,
-        first: first,
-        grid: grid,
+    let Some(shape) = shape_of(shape, width) else {
+        return UNKNOWN;
     };
+    let m = TotalsMeasures { atoms, first, grid };
     number_of(integration_weights::integration_weights_at_triplet(
         m,
-        shape_of(shape, width),
+        shape,
         *triplet,
         bands,
         frequencies,

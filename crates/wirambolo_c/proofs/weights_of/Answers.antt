@@ -1,13 +1,10 @@
--- By the two cases.
-use mathlib.Core.Path.{refl}
-use borrow.Author.Tests.{ne_eqb}
+-- Two choices.
+use mathlib.Core.Path.{◌∙◌}
+use Rattle.phonon.specs.declared.Weights.TheVariants.{PerSlot, AtFrequencyPoint}
 use Rattle.wirambolo_c.specs.Foreign.{weights_of}
+use Rattle.wirambolo_c.proofs.Laws.{of_two}
 use Rattle.wirambolo_c.proofs.weights_of.Goals as goal
-
-pub returns-then-x-eq0 : goal.returns-then-x-eq0
-unfolding weights_of
-returns-then-x-eq0 c = rw c.if-x-eq0.true refl
 
 pub returns : goal.returns
 unfolding weights_of
-returns c = rw (ne_eqb _ _ c.if-x-eq0.false) refl
+returns c = c.choice.ensures ∙ of_two PerSlot AtFrequencyPoint c.args.x

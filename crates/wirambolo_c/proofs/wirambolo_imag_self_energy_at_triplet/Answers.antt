@@ -1,15 +1,13 @@
 -- A call with a choice that is not known is answered with 255 and left as it is; any other is the door's.
-use mathlib.Core.Path.{sym}
 use mir.Syntax.{w64}
 use mir.ValLaws.{to_z-of_z}
-use Rattle.wirambolo_c.proofs.Laws.{totals_unread, totals_answered}
+use Rattle.wirambolo_c.proofs.Laws.{given, missing, totals_unread, totals_answered}
 use Rattle.wirambolo_c.proofs.wirambolo_imag_self_energy_at_triplet.Goals as goal
 
-pub returns-then-not-is_known : goal.returns-then-not-is_known
-returns-then-not-is_known c = totals_unread _ _ (sym c.if-not-is_known.ensures)
+pub returns-in_default : goal.returns-in_default
+returns-in_default c = totals_unread _ _ (missing _ _ c.weights_of.ensures c.in_default.is)
 
 pub returns : goal.returns
 returns c =
-    totals_answered _ _ (sym c.if-not-is_known.ensures)
-    (rw (c.weights_of.ensures, to_z-of_z w64 _ c.ranges.weight) at c.imag_self_energy_at_triplet.ensures)
-    c.number_of.ensures
+    let k = given _ _ c.weights_of.ensures c.in-Some.is in
+    rw c.number_of.ensures (totals_answered _ _ k.0 (rw (k.1, to_z-of_z w64 _ c.ranges.weight) at c.imag_self_energy_at_triplet.ensures))

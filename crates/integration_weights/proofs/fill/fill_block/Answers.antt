@@ -7,7 +7,7 @@ use lib.ListN.{length}
 use Rattle.phonon.specs.Number.{at}
 use Rattle.planes.proofs.Products.{row_next}
 use Rattle.integration_weights.specs.Rows.{row_slot}
-use Rattle.integration_weights.proofs.SlotLaws.{slots_none, slots_part, slots_at, in_block}
+use Rattle.integration_weights.proofs.SlotLaws.{slots_none, slots_part, slots_at, slots_all, in_block}
 use Rattle.integration_weights.proofs.fill.fill_block.Goals as goal
 use Rattle.integration_weights.proofs.fill.fill_block.Goals.{In-loop-j}
 
@@ -18,13 +18,16 @@ fits c =
     omega (arith, row_next c.loop-j.j n, mul-le-mul_right n c.loop-j-test.true)
 
 pub loop-j-init : goal.loop-j-init
-loop-j-init c = (omega arith, slots_at _ _ (slots_none _ _ c.requires.0) (sym (zero-mul (length c.args.leg2.now))))
+loop-j-init c = slots_at _ _ (slots_none _ _ c.requires.0) (sym (zero-mul (length c.args.leg2.now)))
 
 pub loop-j-preserved : goal.loop-j-preserved
 loop-j-preserved c =
     let a = c.args in
     let j = c.loop-j.j in
-    let n = length a.leg2.now in (
-      omega (arith, c.loop-j-test.true),
-      slots_at _ _ (slots_part _ _ c.loop-j.invariant.1 n (row_slot a.s a.x (at a.leg1.now j) a.leg2.now) (fits (goal.at.loop-j-preserved c).In-loop-j) (in_block a.s a.x a.leg1.now a.leg2.now j) c.fill_row.ensures) (row_next j n),
-    )
+    let n = length a.leg2.now in
+    slots_at _ _
+    (slots_part _ _ c.loop-j.invariant n (row_slot a.s a.x (at a.leg1.now j) a.leg2.now) (fits (goal.at.loop-j-preserved c).In-loop-j) (in_block a.s a.x a.leg1.now a.leg2.now j) c.fill_row.ensures)
+    (row_next j n)
+
+pub returns : goal.returns
+returns c = slots_all _ _ c.loop-j.invariant (mul-le-mul_right _ (omega (arith, c.loop-j-test.false)))

@@ -1,6 +1,6 @@
 -- Far off, and near.
 use Rattle.integration_weights.proofs.ShapeLaws.{far, near}
-use Rattle.integration_weights.proofs.shapes.gaussian_at.Goals as goal
+use Rattle.integration_weights.proofs.shapes.BellBroadening.at.Goals as goal
 
 pub returns-then-is_cut : goal.returns-then-is_cut
 returns-then-is_cut c = far _ _ c.is_cut.ensures c.if-is_cut.true
