@@ -64,8 +64,8 @@ pub fn read_column<T: FromWord>(words: &[u64], column: &mut [T])
     requires { length column.old ≡ length words.now }
     ensures { column.new ≡ table (length words.now) (λ k. T.of (get_or words.now k 0)) }
 {
-    for (entry, w) in column.iter_mut().zip(words) {
-        *entry = T::from_word(*w);
+    for (k, entry) in column.iter_mut().enumerate() {
+        *entry = T::from_word(words[k]);
     }
 }
 
