@@ -18,6 +18,7 @@ use Rattle.phonon.specs.Limits.{sizes_of, work_length}
 use Rattle.carton.specs.Most.{most_words, most_work}
 use Rattle.carton.specs.declared.heading.Places.{Places}
 use Rattle.carton.specs.declared.heading.Heading.{Heading}
+use Rattle.phonon.specs.declared.Refusal.{Refusal}
 use Rattle.phonon.specs.declared.Refusal.TheVariants as Cause
 use Rattle.std.specs.Prelude.{Ok, Err}
 use Rattle.carton.specs.Heading.{edition, measures_in, flag_bits, form_of, anchoring_of, symmetry_of, places_with, places_of, heading_in, measures_natural, filled, words_match, heading_ok, read_as, read_of}
@@ -97,13 +98,13 @@ pub read_good : (ws : List ℕ) (h : Heading) → Ok h ≡ read_of ws → (headi
 unfolding read_of
 read_good ws h e = picked (heading_ok ws) (heading_in ws) h e
 
-missed : (b : Bool) (g : Heading) → Err Cause.Heading ≡ read_as b g → b ≡ false
-missed true g e = absurd (let y : ◌≡◌ {A = ℕ} 0 1 = cc in omega arith)
-missed false g e = refl
+missed : (b : Bool) (g : Heading) (x : Refusal) → Err x ≡ read_as b g → (x ≡ Cause.Heading) × (b ≡ false)
+missed true g x e = absurd (let y : ◌≡◌ {A = ℕ} 0 1 = cc in omega arith)
+missed false g x e = (cc, refl)
 
-pub read_wrong : (ws : List ℕ) → Err Cause.Heading ≡ read_of ws → heading_ok ws ≡ false
+pub read_wrong : (ws : List ℕ) (x : Refusal) → Err x ≡ read_of ws → (x ≡ Cause.Heading) × (heading_ok ws ≡ false)
 unfolding read_of
-read_wrong ws e = missed (heading_ok ws) (heading_in ws) e
+read_wrong ws x e = missed (heading_ok ws) (heading_in ws) x e
 
 matched : (ws : List ℕ) (m : Measures) (p : Places) → words_match ws m p ≡ true → (p.end ≤ length ws) × (work_length m.atoms m.supercell ≤ most_work)
 unfolding words_match

@@ -28,6 +28,9 @@ pub fn run_door(
     let floats = columns.floats;
     let ints = columns.ints;
     let bytes = columns.bytes;
+    let mesh = array_at(ints, 10);
+    let matrix = array_at(ints, 13);
+    let triplet = array_at(ints, 22);
     let tables = Tables {
         measures: h.measures,
         settings: Settings {
@@ -49,8 +52,8 @@ pub fn run_door(
             },
         },
         grid: Grid {
-            mesh: array_at(ints, 10),
-            matrix: array_at(ints, 13),
+            mesh,
+            matrix,
             addresses: &ints[25..p.vectors],
         },
         bands: &ints[p.bands..p.frequencies],
@@ -69,7 +72,7 @@ pub fn run_door(
     };
     joined_at_triplet(
         &tables,
-        array_at(ints, 22),
+        triplet,
         &bytes[p.flags..p.constants],
         bath,
         integration,
