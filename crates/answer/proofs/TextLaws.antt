@@ -2,7 +2,7 @@
 use Prim.Native.Nat.{ℕ, zero, suc, ◌%◌, ◌≤◌, ◌<◌}
 use mathlib.Core.Bool.{true, false, ◌&&◌, and-false}
 use mathlib.Core.Path.{◌≡◌, refl, sym, ◌∙◌, ap}
-use mathlib.Core.List.{List}
+use mathlib.Core.List.{List, [], ◌++◌}
 use native.Mathlib.Omega.{arith}
 use lib.Ieee.{Float}
 use lib.IntN.{ℤ}
@@ -28,6 +28,10 @@ use Rattle.carton.proofs.HeadingLaws.{read_good, read_wrong}
 use Rattle.text.specs.Lines.{refused_line, accepted_text, answered_text, set_text}
 use Rattle.answer.specs.Text.{zeros, start_of, file_text, answer_text}
 
+-- what is put behind nothing
+pub alone : (t u a : List ℕ) → u ≡ t ++ a → t ≡ [] → u ≡ a
+alone t u a e z = rw z at e
+
 -- ---- the set
 
 refused_as : (n : ℕ) (s : JoinedSet) (o : JoinedOutcome) → 0 < n → refused_line n ≡ answered_text n s o
@@ -51,7 +55,10 @@ module _ (w : Columns) (h : Heading) (v u k : List Float) (ev : v ≡ zeros (slo
   text_accepted a = rw a at text_is
 
   pub text_refused : (r : Refusal) → o.answer ≡ number r → refused_line (number r) ≡ set_text (start_of w h)
-  text_refused r a = refused_as (number r) (set_in w h v u k) o (number_positive r) ∙ rw a at text_is
+  text_refused r a =
+      refused_as (number r) (set_in w h v u k) o (number_positive r)
+      ∙ ap (λ (n : ℕ). answered_text n (set_in w h v u k) o) (sym a)
+      ∙ text_is
 
 pub columns_same : (h : Heading) (ws : List ℕ) (f : List Float) (i : List ℤ) (b : List ℕ) → f ≡ floats_of ws → i ≡ ints_of ws → b ≡ bytes_of ws
     → set_text (start_of (record { floats = f; ints = i; bytes = b }) h) ≡ set_text (start_of (columns_of ws) h)

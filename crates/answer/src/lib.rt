@@ -82,7 +82,8 @@ fn words_lines(
 
 // An array of one number.
 pub fn filled<T: Copy, const N: usize>(x: T) -> [T; N]
-    ensures { result ≡ replicate N x }
+    ensures entries { result ≡ replicate N x }
+    ensures len { length result ≡ N }
 {
     [x; N]
 }
