@@ -1,2 +1,3 @@
 -- What `key` prints for any file.
 pub mod Text
+pub mod Printed

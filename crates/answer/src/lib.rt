@@ -1,67 +1,57 @@
 // What `key` prints for any file: the carton is read, worked by the joined door, and put down as text.
 #![tactic(auto)]
 
-ghost use Rattle.std.specs.Prelude.{◌≡◌, true, ◌*◌, ◌/◌, ◌≤◌, length};
+ghost use Rattle.std.specs.Prelude.{◌≡◌, true, ◌*◌, ◌/◌, ◌≤◌, length, replicate};
 ghost use Rattle.phonon.specs.Sets.{slots};
 ghost use Rattle.carton.specs.Blocks.{size_ok, blocks_ok};
 ghost use Rattle.carton.specs.Fitted.{Fitted};
-ghost use Rattle.carton.specs.Most.{most_words, most_work};
-ghost use Rattle.carton.specs.Tables.{columns_of};
-ghost use Rattle.io.specs.Counts.{IsPrefixLen};
+ghost use Rattle.carton.specs.Most.{most_work};
+ghost use Rattle.carton.specs.Tables.{columns_of, lists_of};
 ghost use Rattle.text.specs.Lines.{set_text};
-ghost use Rattle.text.specs.Room.{accepted_room};
-ghost use Rattle.text.specs.Printed.{Printed};
 ghost use Rattle.answer.specs.Text.{zeros, start_of, answer_text};
+ghost use Rattle.answer.specs.Printed.{printed};
 
-use carton::{Heading, Read};
+use arrayvec::ArrayVec;
+use carton::{Columns, Heading, heading_of, read_column, read_words};
 use carton_door::run_door;
-use phonon::Answer;
+use phonon::Refusal;
+use text::{Slots, put_accepted, put_refused};
 
-// The text of a carton's set, from every word as an f64, as an integer and as a byte.
-fn set_text(
-    h: Heading,
-    floats: &[f64],
-    ints: &[i64],
-    bytes: &[u8],
+// Room for a file of 96 blocks and one byte more, by which a longer file is known.
+pub const MOST_INPUT: usize = 49153;
+
+// Room for the lines of any file.
+pub type Text = ArrayVec<u8, 25600>;
+
+// The lines of a carton's set, with columns and buffers that are lent.
+fn set_lines(
+    h: &Heading,
+    columns: &Columns<'_>,
     strengths: &mut [f64],
     totals: &mut [f64],
     work: &mut [f64],
-    text: &mut [u8],
-) -> usize
-    requires { Fitted h (length floats.now)
-        × (length ints.now ≡ length floats.now)
-        × (length bytes.now ≡ length floats.now)
-        × (strengths.old ≡ zeros (slots h.measures))
-        × (totals.old ≡ zeros h.measures.first)
-        × (work.old ≡ zeros most_work)
-        × (accepted_room ≤ length text.old) }
-    ensures { Printed text.old 0
-        (set_text (start_of (record { floats = floats.now; ints = ints.now; bytes = bytes.now }) h))
-        text.new result }
+) -> Result<Text, Refusal>
+    requires { Fitted h.now (length columns.now.floats.now)
+        × (strengths.old ≡ zeros (slots h.now.measures))
+        × (totals.old ≡ zeros h.now.measures.first)
+        × (work.old ≡ zeros most_work) }
+    ensures { printed result ≡ set_text (start_of (lists_of columns.now) h.now) }
 {
-    let answer = run_door(h, floats, ints, bytes, strengths, totals, work);
-    match answer {
-        Answer::Accepted => {
-            let m = h.measures;
-            let p = h.places;
-            let flags = p.flags;
-            let constants = p.constants;
-            text::put_accepted(
-                text,
-                m.first,
-                3 * m.atoms,
-                &bytes[flags..constants],
-                strengths,
-                totals,
-            )
-        }
-        Answer::Refused(n) => text::put_refused(text, n),
-    }
+    run_door(h, columns, strengths, totals, work)?;
+    let slots = Slots {
+        first: h.measures.first,
+        bands: 3 * h.measures.atoms,
+        flags: &columns.bytes[h.places.flags..h.places.constants],
+        strengths,
+    };
+    let mut text = Text::new();
+    put_accepted(&mut text, &slots, totals);
+    Ok(text)
 }
 
-// The text of a carton whose words are read, with columns and buffers that are lent.
-fn words_text(
-    h: Heading,
+// The lines of a carton whose words are read, with columns and buffers that are lent.
+fn words_lines(
+    h: &Heading,
     words: &[u64],
     floats: &mut [f64],
     ints: &mut [i64],
@@ -69,73 +59,50 @@ fn words_text(
     strengths: &mut [f64],
     totals: &mut [f64],
     work: &mut [f64],
-    text: &mut [u8],
-) -> usize
-    requires { Fitted h (length words.now)
+) -> Result<Text, Refusal>
+    requires { Fitted h.now (length words.now)
         × (length floats.old ≡ length words.now)
         × (length ints.old ≡ length words.now)
         × (length bytes.old ≡ length words.now)
-        × (strengths.old ≡ zeros (slots h.measures))
-        × (totals.old ≡ zeros h.measures.first)
-        × (work.old ≡ zeros most_work)
-        × (accepted_room ≤ length text.old) }
-    ensures { Printed text.old 0 (set_text (start_of (columns_of words.now) h)) text.new result }
+        × (strengths.old ≡ zeros (slots h.now.measures))
+        × (totals.old ≡ zeros h.now.measures.first)
+        × (work.old ≡ zeros most_work) }
+    ensures { printed result ≡ set_text (start_of (columns_of words.now) h.now) }
 {
-    carton::read_floats(words, floats);
-    carton::read_ints(words, ints);
-    carton::read_bytes(words, bytes);
-    set_text(h, floats, ints, bytes, strengths, totals, work, text)
+    read_column(words, floats);
+    read_column(words, ints);
+    read_column(words, bytes);
+    let columns = Columns {
+        floats,
+        ints,
+        bytes,
+    };
+    set_lines(h, &columns, strengths, totals, work)
 }
 
-// ---- arrays of zeros; their lengths are all that is asked of some
-
-fn zero_floats() -> [f64; 6048]
-    ensures { result ≡ zeros most_words }
+// An array of one number.
+pub fn filled<T: Copy, const N: usize>(x: T) -> [T; N]
+    ensures entries { result ≡ replicate N x }
+    ensures len { length result ≡ N }
 {
-    [0.0; 6048]
+    [x; N]
 }
 
-fn zero_work() -> [f64; 6144]
-    ensures { result ≡ zeros most_work }
-{
-    [0.0; 6144]
-}
-
-fn zero_ints() -> [i64; 6048]
-    ensures { most_words ≡ length result }
-{
-    [0; 6048]
-}
-
-fn zero_bytes() -> [u8; 6048]
-    ensures { most_words ≡ length result }
-{
-    [0; 6048]
-}
-
-fn zero_words() -> [u64; 6048]
-    ensures { most_words ≡ length result }
-{
-    [0; 6048]
-}
-
-// The text of a carton whose words are read; columns and buffers are arrays of its own.
-fn heading_text(h: Heading, words: &[u64], text: &mut [u8]) -> usize
-    requires { Fitted h (length words.now) × (accepted_room ≤ length text.old) }
-    ensures { Printed text.old 0 (set_text (start_of (columns_of words.now) h)) text.new result }
+// The lines of a carton whose words are read; columns and buffers are arrays of its own.
+fn heading_lines(h: &Heading, words: &[u64]) -> Result<Text, Refusal>
+    requires { Fitted h.now (length words.now) }
+    ensures { printed result ≡ set_text (start_of (columns_of words.now) h.now) }
 {
     let n = words.len();
-    let m = h.measures;
-    let p = h.places;
-    let first = m.first;
-    let slots = p.end - p.second;
-    let mut floats = zero_floats();
-    let mut ints = zero_ints();
-    let mut bytes = zero_bytes();
-    let mut strengths = zero_floats();
-    let mut totals = zero_floats();
-    let mut work = zero_work();
-    words_text(
+    let first = h.measures.first;
+    let slots = h.places.end - h.places.second;
+    let mut floats = filled::<f64, 6048>(0.0);
+    let mut ints = filled::<i64, 6048>(0);
+    let mut bytes = filled::<u8, 6048>(0);
+    let mut strengths = filled::<f64, 6048>(0.0);
+    let mut totals = filled::<f64, 6048>(0.0);
+    let mut work = filled::<f64, 6144>(0.0);
+    words_lines(
         h,
         words,
         &mut floats[..n],
@@ -144,51 +111,45 @@ fn heading_text(h: Heading, words: &[u64], text: &mut [u8]) -> usize
         &mut strengths[..slots],
         &mut totals[..first],
         &mut work,
-        text,
     )
 }
 
-// The text of a file whose size and blocks are right; words has a place for each of its words.
-fn blocks_text(input: &[u8], words: &mut [u64], text: &mut [u8]) -> usize
+// The lines of a file whose size and blocks are right; words has a place for each of its words.
+fn blocks_lines(input: &[u8], words: &mut [u64]) -> Result<Text, Refusal>
     requires { (size_ok input.now ≡ true)
         × (blocks_ok input.now ≡ true)
-        × (length words.old ≡ 63 * (length input.now / 512))
-        × (accepted_room ≤ length text.old) }
-    ensures { Printed text.old 0 (answer_text input.now) text.new result }
+        × (length words.old ≡ 63 * (length input.now / 512)) }
+    ensures { printed result ≡ answer_text input.now }
 {
-    carton::read_words(input, words);
-    let read = carton::heading_of(words);
-    let Read::Good(h) = read else {
-        return text::put_refused(text, 12);
-    };
-    heading_text(h, words, text)
+    read_words(input, words);
+    let h = heading_of(words)?;
+    heading_lines(&h, words)
 }
 
-// Room for a file of 96 blocks and one byte more, by which a longer file is known.
-pub fn input_buffer() -> [u8; 49153]
-    ensures { 49153 ≡ length result }
-{
-    [0; 49153]
-}
-
-pub fn text_buffer() -> [u8; 25600]
-    ensures { 25600 ≡ length result }
-{
-    [0; 25600]
-}
-
-// The text for the bytes of any file, at the start of the buffer; its length.
-pub fn answer(input: &[u8], text: &mut [u8; 25600]) -> usize
-    ensures printed { Printed text.old 0 (answer_text input.now) text.new result }
-    ensures prefix_len { IsPrefixLen result text.new }
+fn lines_of(input: &[u8]) -> Result<Text, Refusal>
+    ensures { printed result ≡ answer_text input.now }
 {
     if !carton::size_ok(input) {
-        return text::put_refused(text, 10);
+        return Err(Refusal::File);
     }
     if !carton::blocks_ok(input) {
-        return text::put_refused(text, 11);
+        return Err(Refusal::Block);
     }
-    let mut words = zero_words();
+    let mut words = filled::<u64, 6048>(0);
     let n = 63 * (input.len() / 512);
-    blocks_text(input, &mut words[..n], text)
+    blocks_lines(input, &mut words[..n])
+}
+
+// The text for the bytes of any file.
+pub fn answer(input: &[u8]) -> Text
+    ensures { result.items ≡ answer_text input.now }
+{
+    match lines_of(input) {
+        Ok(lines) => lines,
+        Err(refusal) => {
+            let mut text = Text::new();
+            put_refused(&mut text, u8::from(refusal));
+            text
+        }
+    }
 }

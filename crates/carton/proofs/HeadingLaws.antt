@@ -18,7 +18,9 @@ use Rattle.phonon.specs.Limits.{sizes_of, work_length}
 use Rattle.carton.specs.Most.{most_words, most_work}
 use Rattle.carton.specs.declared.heading.Places.{Places}
 use Rattle.carton.specs.declared.heading.Heading.{Heading}
-use Rattle.carton.specs.declared.heading.Read.TheVariants.{Good, Wrong}
+use Rattle.phonon.specs.declared.Refusal.{Refusal}
+use Rattle.phonon.specs.declared.Refusal.TheVariants as Cause
+use Rattle.std.specs.Prelude.{Ok, Err}
 use Rattle.carton.specs.Heading.{edition, measures_in, flag_bits, form_of, anchoring_of, symmetry_of, places_with, places_of, heading_in, measures_natural, filled, words_match, heading_ok, read_as, read_of}
 use Rattle.carton.specs.Small.{small_ok}
 use Rattle.carton.specs.Fitted.{Fitted}
@@ -50,7 +52,7 @@ module _ (ws : List ℕ) (s : Bool) (e : s ≡ small_ok (measures_in ws)) where
   abbrev Match : Bool
   Match = words_match ws (measures_in ws) (places_of (measures_in ws) (form_of (flag_bits ws)))
 
-  pub tests_wrong : length ws ≤ most_words → Tests ≡ false → Wrong ≡ read_of ws
+  pub tests_wrong : length ws ≤ most_words → Tests ≡ false → Err Cause.Heading ≡ read_of ws
   unfolding read_of heading_ok
   tests_wrong h t =
       rw
@@ -78,31 +80,31 @@ module _ (ws : List ℕ) (s : Bool) (e : s ≡ small_ok (measures_in ws)) where
     read_is : read_of ws ≡ read_as match (heading_in ws)
     read_is = tests_right t ∙ ap (λ (b : Bool). read_as b (heading_in ws)) (sym match_is)
 
-    pub words_wrong : match ≡ false → Wrong ≡ read_of ws
+    pub words_wrong : match ≡ false → Err Cause.Heading ≡ read_of ws
     words_wrong z = sym (read_is ∙ ap (λ (b : Bool). read_as b (heading_in ws)) z)
 
     pub words_good : (anchoring : Anchoring) (symmetry : Symmetry) → anchoring ≡ anchoring_of (flag_bits ws) → symmetry ≡ symmetry_of (flag_bits ws) → match ≡ true
-        → Good (record { measures = measures_in ws; form = form; anchoring = anchoring; symmetry = symmetry; places = p }) ≡ read_of ws
+        → Ok (record { measures = measures_in ws; form = form; anchoring = anchoring; symmetry = symmetry; places = p }) ≡ read_of ws
     unfolding heading_in
     words_good anchoring symmetry a b z = rw (read_is, z, a, b, q, f) refl
 
 -- ---- what a heading that is read tells
 
-picked : (b : Bool) (g h : Heading) → Good h ≡ read_as b g → (b ≡ true) × (h ≡ g)
+picked : (b : Bool) (g h : Heading) → Ok h ≡ read_as b g → (b ≡ true) × (h ≡ g)
 picked true g h e = (refl, cc)
 picked false g h e = absurd (let y : ◌≡◌ {A = ℕ} 0 1 = cc in omega arith)
 
-pub read_good : (ws : List ℕ) (h : Heading) → Good h ≡ read_of ws → (heading_ok ws ≡ true) × (h ≡ heading_in ws)
+pub read_good : (ws : List ℕ) (h : Heading) → Ok h ≡ read_of ws → (heading_ok ws ≡ true) × (h ≡ heading_in ws)
 unfolding read_of
 read_good ws h e = picked (heading_ok ws) (heading_in ws) h e
 
-missed : (b : Bool) (g : Heading) → Wrong ≡ read_as b g → b ≡ false
-missed true g e = absurd (let y : ◌≡◌ {A = ℕ} 0 1 = cc in omega arith)
-missed false g e = refl
+missed : (b : Bool) (g : Heading) (x : Refusal) → Err x ≡ read_as b g → (x ≡ Cause.Heading) × (b ≡ false)
+missed true g x e = absurd (let y : ◌≡◌ {A = ℕ} 0 1 = cc in omega arith)
+missed false g x e = (cc, refl)
 
-pub read_wrong : (ws : List ℕ) → Wrong ≡ read_of ws → heading_ok ws ≡ false
+pub read_wrong : (ws : List ℕ) (x : Refusal) → Err x ≡ read_of ws → (x ≡ Cause.Heading) × (heading_ok ws ≡ false)
 unfolding read_of
-read_wrong ws e = missed (heading_ok ws) (heading_in ws) e
+read_wrong ws x e = missed (heading_ok ws) (heading_in ws) x e
 
 matched : (ws : List ℕ) (m : Measures) (p : Places) → words_match ws m p ≡ true → (p.end ≤ length ws) × (work_length m.atoms m.supercell ≤ most_work)
 unfolding words_match
@@ -119,7 +121,7 @@ second_at : (m : Measures) (form : Form) → (places_of m form).end ≡ (places_
 unfolding places_with sizes_of
 second_at m form = refl
 
-pub fitted : (ws : List ℕ) (h : Heading) → length ws ≤ most_words → Good h ≡ read_of ws → Fitted h (length ws)
+pub fitted : (ws : List ℕ) (h : Heading) → length ws ≤ most_words → Ok h ≡ read_of ws → Fitted h (length ws)
 unfolding heading_ok heading_in
 fitted ws h few e =
     let r = read_good ws h e in

@@ -1,5 +1,7 @@
 -- Document 01, "Carton file": what the heading says, where each table starts, and refusal 12. The words are true integers: no sum comes round.
-use Rattle.std.specs.Prelude.{ℕ, ◌+◌, ◌-◌, ◌*◌, ◌/◌, ◌%◌, Bool, true, false, cond, ◌&&◌, List, length, get_or, take, drop, leb, ltb, eqb}
+use Rattle.std.specs.Prelude.{ℕ, ◌+◌, ◌-◌, ◌*◌, ◌/◌, ◌%◌, Bool, true, false, cond, ◌&&◌, List, length, get_or, take, drop, leb, ltb, eqb, Result, Ok, Err}
+use Rattle.phonon.specs.declared.Refusal.{Refusal}
+use Rattle.phonon.specs.declared.Refusal.TheVariants as Cause
 use Rattle.phonon.specs.declared.Measures.{Measures}
 use Rattle.phonon.specs.declared.Sizes.{Sizes}
 use Rattle.phonon.specs.declared.Form.{Form}
@@ -13,8 +15,6 @@ use Rattle.carton.specs.Most.{most_work}
 use Rattle.carton.specs.Words.{all_below}
 use Rattle.carton.specs.declared.heading.Places.{Places}
 use Rattle.carton.specs.declared.heading.Heading.{Heading}
-use Rattle.carton.specs.declared.heading.Read.{Read}
-use Rattle.carton.specs.declared.heading.Read.TheVariants.{Good, Wrong}
 
 -- entries a to e - 1 of a list
 abbrev pub slice : {A : Type 0} → ℕ → ℕ → List A → List A
@@ -120,10 +120,10 @@ heading_ok ws =
     && (ltb (flag_bits ws) 8
     && (measures_natural (measures_in ws) && words_match ws (measures_in ws) (places_of (measures_in ws) (form_of (flag_bits ws)))))
 
-abbrev pub read_as : Bool → Heading → Read
-read_as true h = Good h
-read_as false h = Wrong
+abbrev pub read_as : Bool → Heading → Result Heading Refusal
+read_as true h = Ok h
+read_as false h = Err Cause.Heading
 
 -- the heading of a file of these words, unless it is 12
-unfoldable pub read_of : List ℕ → Read
+unfoldable pub read_of : List ℕ → Result Heading Refusal
 read_of ws = read_as (heading_ok ws) (heading_in ws)

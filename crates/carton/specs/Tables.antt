@@ -3,6 +3,7 @@ use Rattle.std.specs.Prelude.{ℕ, List, ℤ, Float}
 use Rattle.phonon.specs.Number.{at, int}
 use Rattle.phonon.specs.Sets.{JoinedSet}
 use Rattle.carton.specs.declared.heading.Heading.{Heading}
+use Rattle.carton.specs.declared.columns.Columns as Lent
 use Rattle.carton.specs.Words.{floats_of, ints_of, bytes_of}
 use Rattle.carton.specs.Heading.{slice}
 
@@ -14,6 +15,10 @@ pub record Columns : Type 0 where
 
 abbrev pub columns_of : List ℕ → Columns
 columns_of ws = record { floats = floats_of ws; ints = ints_of ws; bytes = bytes_of ws }
+
+-- as they are lent
+abbrev pub lists_of : Lent.Columns → Columns
+lists_of c = record { floats = c.floats.now; ints = c.ints.now; bytes = c.bytes.now }
 
 -- the joined door's set, with these strengths, totals and work buffer before the call
 unfoldable pub set_in : Columns → Heading → List Float → List Float → List Float → JoinedSet

@@ -2,19 +2,12 @@
 ghost use Rattle.std.specs.Prelude.{◌≡◌, ◌+◌, ◌*◌, ◌≤◌, ◌<◌, length};
 ghost use Rattle.carton.specs.Blocks.{four_at, eight_at, size_ok, check_of, block_ok, blocks_ok};
 
-// A byte as a number to sum.
-fn wide(b: u8) -> u64
-    ensures { (result ≡ b) × (result < 256) }
-{
-    b as u64
-}
-
 // The little-endian number of four bytes from byte i on.
-pub fn four_at(s: &[u8], i: usize) -> u64
+fn four_at(s: &[u8], i: usize) -> u32
     requires { i + 4 ≤ length s.now }
-    ensures { (result ≡ four_at s.now i) × (result < 4294967296) }
+    ensures { result ≡ four_at s.now i }
 {
-    wide(s[i]) + 256 * wide(s[i + 1]) + 65536 * wide(s[i + 2]) + 16777216 * wide(s[i + 3])
+    u32::from_le_bytes([s[i], s[i + 1], s[i + 2], s[i + 3]])
 }
 
 // The little-endian number of eight bytes from byte i on.
@@ -22,7 +15,16 @@ pub fn eight_at(s: &[u8], i: usize) -> u64
     requires { i + 8 ≤ length s.now }
     ensures { result ≡ eight_at s.now i }
 {
-    four_at(s, i) + 4294967296 * four_at(s, i + 4)
+    u64::from_le_bytes([
+        s[i],
+        s[i + 1],
+        s[i + 2],
+        s[i + 3],
+        s[i + 4],
+        s[i + 5],
+        s[i + 6],
+        s[i + 7],
+    ])
 }
 
 // Number 10. 49,152 bytes are 96 blocks.
@@ -40,7 +42,7 @@ fn check_of(s: &[u8], i: usize) -> u64
 {
     let mut sum: u64 = 0;
     for k in 0..127 {
-        sum += four_at(s, i + 4 * k);
+        sum += u64::from(four_at(s, i + 4 * k));
     }
     sum % 4294967296
 }
@@ -51,8 +53,8 @@ fn block_ok(s: &[u8], b: usize) -> bool
     ensures { result ≡ block_ok s.now b }
 {
     let i = 512 * b;
-    let number = four_at(s, i + 504);
-    let check = four_at(s, i + 508);
+    let number = u64::from(four_at(s, i + 504));
+    let check = u64::from(four_at(s, i + 508));
     (number == b as u64) & (check == check_of(s, i))
 }
 
@@ -60,9 +62,5 @@ fn block_ok(s: &[u8], b: usize) -> bool
 pub fn blocks_ok(s: &[u8]) -> bool
     ensures { result ≡ blocks_ok s.now }
 {
-    let mut good = true;
-    for b in 0..s.len() / 512 {
-        good = good & block_ok(s, b);
-    }
-    good
+    (0..s.len() / 512).all(|b| block_ok(s, b))
 }

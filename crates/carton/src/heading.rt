@@ -6,7 +6,7 @@ ghost use Rattle.carton.specs.Small.{small_ok};
 
 use crate::words::all_below;
 use checks::sizes::sizes_of;
-use phonon::{Anchoring, Form, Measures, Symmetry};
+use phonon::{Anchoring, Form, Measures, Refusal, Symmetry};
 use planes::work_length;
 
 // Where each table starts, the addresses at word 25, and where the last one ends.
@@ -37,13 +37,6 @@ pub struct Heading {
     pub anchoring: Anchoring,
     pub symmetry: Symmetry,
     pub places: Places,
-}
-
-// The heading of a file, or number 12.
-#[derive(Clone, Copy)]
-pub enum Read {
-    Good(Heading),
-    Wrong,
 }
 
 // ---- the flag bits
@@ -112,20 +105,20 @@ fn places_of(m: Measures, form: Form) -> Places
     let first = constants + z.constants;
     let second = first + z.slots;
     Places {
-        vectors: vectors,
-        multiplicity: multiplicity,
-        p2s: p2s,
-        s2p: s2p,
-        masses: masses,
-        bands: bands,
-        frequencies: frequencies,
-        eigenvectors: eigenvectors,
-        shortest: shortest,
-        nonzero: nonzero,
-        flags: flags,
-        constants: constants,
-        first: first,
-        second: second,
+        vectors,
+        multiplicity,
+        p2s,
+        s2p,
+        masses,
+        bands,
+        frequencies,
+        eigenvectors,
+        shortest,
+        nonzero,
+        flags,
+        constants,
+        first,
+        second,
         end: second + z.slots,
     }
 }
@@ -153,7 +146,7 @@ fn words_match(words: &[u64], m: Measures, form: Form, p: Places) -> bool
 }
 
 // The heading of a file of these words, each test of number 12 made before the next step rests on it.
-pub fn heading_of(words: &[u64]) -> Read
+pub fn heading_of(words: &[u64]) -> Result<Heading, Refusal>
     requires { (63 ≤ length words.now) × (length words.now ≤ most_words) }
     ensures { result ≡ read_of words.now }
 {
@@ -168,16 +161,16 @@ pub fn heading_of(words: &[u64]) -> Read
     let bits = words[6];
     let good = (edition == 1) & (bits < 8) & is_small(m);
     if !good {
-        return Read::Wrong;
+        return Err(Refusal::Heading);
     }
     let form = form_of(bits);
     let p = places_of(m, form);
     if !words_match(words, m, form, p) {
-        return Read::Wrong;
+        return Err(Refusal::Heading);
     }
-    Read::Good(Heading {
+    Ok(Heading {
         measures: m,
-        form: form,
+        form,
         anchoring: anchoring_of(bits),
         symmetry: symmetry_of(bits),
         places: p,

@@ -2,9 +2,11 @@
 #![tactic(auto)]
 
 mod blocks;
+mod columns;
 mod heading;
 mod words;
 
-pub use blocks::{blocks_ok, four_at, size_ok};
-pub use heading::{Heading, Places, Read, heading_of};
-pub use words::{read_bytes, read_floats, read_ints, read_words};
+pub use blocks::{blocks_ok, size_ok};
+pub use columns::Columns;
+pub use heading::{Heading, Places, heading_of};
+pub use words::{FromWord, read_column, read_words};

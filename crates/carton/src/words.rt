@@ -1,6 +1,7 @@
 // The words of a carton file, and what they are as numbers.
-ghost use Rattle.std.specs.Prelude.{◌≡◌, ◌*◌, ◌/◌, ◌<◌, length};
-ghost use Rattle.carton.specs.Words.{word_at, words_of, int_of, byte_of, floats_of, ints_of, bytes_of, all_below};
+ghost use Rattle.std.specs.Prelude.{◌≡◌, ℕ, ◌*◌, ◌/◌, ◌<◌, length, get_or};
+ghost use Rattle.phonon.specs.Number.{bits, table};
+ghost use Rattle.carton.specs.Words.{word_at, words_of, int_of, byte_of, all_below};
 
 use crate::blocks::eight_at;
 use common::bits::f64_of_bits;
@@ -19,55 +20,52 @@ pub fn read_words(s: &[u8], words: &mut [u64])
     requires { length words.old ≡ 63 * (length s.now / 512) }
     ensures { words.new ≡ words_of s.now }
 {
-    for i in 0..words.len() {
-        words[i] = word_at(s, i);
+    for (w, word) in words.iter_mut().enumerate() {
+        *word = word_at(s, w);
     }
 }
 
-// A word as an integer, in two's complement.
-fn int_of(w: u64) -> i64
-    ensures { result ≡ int_of w }
-{
-    if w < 0x8000_0000_0000_0000 {
-        return w as i64;
-    }
-    -1 - ((0xffff_ffff_ffff_ffff - w) as i64)
+// A number that a word is.
+pub trait FromWord: Copy {
+    ghost of: { ℕ → Self };
+
+    fn from_word(w: u64) -> Self
+        ensures { result ≡ of w };
 }
 
-// The low byte of a word.
-fn byte_of(w: u64) -> u8
-    ensures { result ≡ byte_of w }
-{
-    (w % 256) as u8
-}
+impl FromWord for f64 {
+    ghost of = { bits };
 
-// Every word as an f64.
-pub fn read_floats(words: &[u64], floats: &mut [f64])
-    requires { length floats.old ≡ length words.now }
-    ensures { floats.new ≡ floats_of words.now }
-{
-    for i in 0..words.len() {
-        floats[i] = f64_of_bits(words[i]);
+    fn from_word(w: u64) -> f64 {
+        f64_of_bits(w)
     }
 }
 
-// Every word as an integer.
-pub fn read_ints(words: &[u64], ints: &mut [i64])
-    requires { length ints.old ≡ length words.now }
-    ensures { ints.new ≡ ints_of words.now }
-{
-    for i in 0..words.len() {
-        ints[i] = int_of(words[i]);
+// In two's complement.
+impl FromWord for i64 {
+    ghost of = { int_of };
+
+    fn from_word(w: u64) -> i64 {
+        w.cast_signed()
     }
 }
 
-// Every word as a flag byte.
-pub fn read_bytes(words: &[u64], bytes: &mut [u8])
-    requires { length bytes.old ≡ length words.now }
-    ensures { bytes.new ≡ bytes_of words.now }
+// The low byte, a flag.
+impl FromWord for u8 {
+    ghost of = { byte_of };
+
+    fn from_word(w: u64) -> u8 {
+        (w % 256) as u8
+    }
+}
+
+// Every word as such a number.
+pub fn read_column<T: FromWord>(words: &[u64], column: &mut [T])
+    requires { length column.old ≡ length words.now }
+    ensures { column.new ≡ table (length words.now) (λ k. T.of (get_or words.now k 0)) }
 {
-    for i in 0..words.len() {
-        bytes[i] = byte_of(words[i]);
+    for (k, entry) in column.iter_mut().enumerate() {
+        *entry = T::from_word(words[k]);
     }
 }
 
@@ -75,9 +73,5 @@ pub fn read_bytes(words: &[u64], bytes: &mut [u8])
 pub fn all_below(limit: u64, words: &[u64]) -> bool
     ensures { result ≡ all_below limit words.now }
 {
-    let mut good = true;
-    for i in 0..words.len() {
-        good = good & (words[i] < limit);
-    }
-    good
+    words.iter().all(|w| *w < limit)
 }

@@ -2,33 +2,28 @@
 // little-endian, and its bytes, of which only the first 49,153 matter and are sent.
 #![tactic(auto)]
 
-use std::io::{Read, Write};
+use std::io;
+use std::io::{ErrorKind, Read, Write};
 
-// Reads one carton and writes its answer; false at the end of the stream.
-fn next_carton<R: Read, W: Write>(from: &mut R, to: &mut W) -> bool {
-    let mut size = [0u8; 4];
-    if from.read_exact(&mut size).is_err() {
-        return false;
-    }
-    let n = carton::four_at(&size, 0) as usize;
-    let mut input = answer::input_buffer();
-    if input.len() < n {
-        return false;
-    }
-    if from.read_exact(&mut input[..n]).is_err() {
-        return false;
-    }
-    let mut text = answer::text_buffer();
-    let k = answer::answer(&input[..n], &mut text);
-    to.write_all(&text[..k]).is_ok()
+// Reads one carton and writes its answer.
+fn next_carton<R: Read, W: Write>(from: &mut R, to: &mut W) -> io::Result<()> {
+    let mut size = [0; 4];
+    from.read_exact(&mut size)?;
+    let mut input = answer::filled::<u8, { answer::MOST_INPUT }>(0);
+    let Some(carton) = input.get_mut(..u32::from_le_bytes(size) as usize) else {
+        return Err(ErrorKind::InvalidData.into());
+    };
+    from.read_exact(carton)?;
+    to.write_all(answer::answer(carton).as_slice())
 }
 
-// The loop counts its turns down from a number that no run uses up.
+// Until the stream ends; no run answers as many cartons as the loop would.
 fn main(rt: HostRuntime) {
     let mut from = rt.stdin();
     let mut to = rt.stdout();
-    let mut turns = u64::MAX;
-    while turns > 0 && next_carton(&mut from, &mut to) {
-        turns -= 1;
+    for _ in 0..u64::MAX {
+        if next_carton(&mut from, &mut to).is_err() {
+            break;
+        }
     }
 }

@@ -5,13 +5,13 @@ use mir.ValLaws.{to_z-of_z}
 use Rattle.phonon.specs.Doors.{joined_outcome}
 use Rattle.phonon.proofs.SameSets.{tables_same, joined_same}
 use borrow.Author.Rules.{rules}
-use Rattle.carton.specs.Tables.{set_in}
+use Rattle.carton.specs.Tables.{lists_of, set_in}
 use Rattle.carton_door.proofs.run_door.Goals as goal
 
 pub returns : goal.returns
 unfolding set_in
 returns c =
     let a = c.args in
-    let set = set_in (record { floats = a.floats.now; ints = a.ints.now; bytes = a.bytes.now }) a.h a.strengths.now a.totals.now a.work.now in
-    let tables = tables_same set.tables _ _ _ _ _ refl refl refl c.three_at-mesh.ensures c.nine_at-matrix.ensures in
-    c.joined_at_triplet.ensures ∙ ap joined_outcome (joined_same set _ _ _ tables c.three_at-triplet.ensures (to_z-of_z w64 _ (search rules)))
+    let set = set_in (lists_of a.columns.now) a.h.now a.strengths.now a.totals.now a.work.now in
+    let tables = tables_same set.tables _ _ _ _ _ refl refl refl c.array_at-mesh.ensures c.array_at-matrix.ensures in
+    c.joined_at_triplet.ensures ∙ ap joined_outcome (joined_same set _ _ _ tables c.array_at-triplet.ensures (to_z-of_z w64 _ (search rules)))

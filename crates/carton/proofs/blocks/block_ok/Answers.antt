@@ -5,4 +5,4 @@ use Rattle.carton.proofs.blocks.block_ok.Goals as goal
 
 pub returns : goal.returns
 unfolding block_ok
-returns c = rw (c.four_at-number.ensures.0, c.four_at-check.ensures.0, c.check_of.ensures) refl
+returns c = rw (c.from-number.ensures, c.four_at.ensures, c.from-check.ensures, c.four_at-2.ensures, c.check_of.ensures) refl

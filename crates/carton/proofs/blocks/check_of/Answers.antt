@@ -17,7 +17,7 @@ loop-k-preserved c =
     let a = c.args in
     let l = c.loop-k in
     let next = fold_step l.k 0 (λ t n. n + four_at a.s.now (a.i + 4 * t)) in
-    (omega arith, omega arith, rw (l.invariant.2, c.four_at-sum.ensures.0) (sym next))
+    (omega arith, omega arith, rw (l.invariant.2, c.from-sum.ensures, c.four_at.ensures) (sym next))
 
 pub returns : goal.returns
 unfolding check_of

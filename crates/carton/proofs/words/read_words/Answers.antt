@@ -4,12 +4,12 @@ use Rattle.carton.specs.Words.{words_of}
 use native.Mathlib.Omega.{arith}
 use Rattle.carton.proofs.words.read_words.Goals as goal
 
-pub loop-i-init : goal.loop-i-init
-loop-i-init c = let e = c.requires in (e, filled_none e)
+pub loop-w-init : goal.loop-w-init
+loop-w-init c = let e = c.requires in (e, filled_none e)
 
-pub loop-i-preserved : goal.loop-i-preserved
-loop-i-preserved c = let d = c.loop-i.invariant in (d.0, filled_more (omega arith) c.word_at.ensures d.1)
+pub loop-w-preserved : goal.loop-w-preserved
+loop-w-preserved c = let d = c.loop-w.invariant in (d.0, filled_more (omega arith) c.word_at.ensures d.1)
 
 pub returns : goal.returns
 unfolding words_of
-returns c = filled_whole (omega arith) c.loop-i.invariant.1
+returns c = filled_whole (omega arith) c.loop-w.invariant.1

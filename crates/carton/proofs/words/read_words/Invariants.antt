@@ -6,5 +6,5 @@ use Rattle.planes.proofs.FilledLaws.{Filled}
 use Rattle.carton.specs.Words.{word_at}
 use Rattle.carton.proofs.words.read_words.Given as goal
 
-abbrev pub invariant-loop-i : goal.invariant-loop-i
-invariant-loop-i l = (l.i-end ≡ 63 * (length l.s / 512)) × Filled (word_at l.s) (63 * (length l.s / 512)) l.words l.i
+abbrev pub invariant-loop-w : goal.invariant-loop-w
+invariant-loop-w l = (l.w-end ≡ 63 * (length l.s / 512)) × Filled (word_at l.s) (63 * (length l.s / 512)) l.words l.w

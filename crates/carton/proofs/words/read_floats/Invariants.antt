@@ -1,9 +1,0 @@
--- A table that is filled entry by entry.
-use mathlib.Core.Path.{◌≡◌}
-use lib.ListN.{length, get_or}
-use Rattle.phonon.specs.Number.{bits}
-use Rattle.planes.proofs.FilledLaws.{Filled}
-use Rattle.carton.proofs.words.read_floats.Given as goal
-
-abbrev pub invariant-loop-i : goal.invariant-loop-i
-invariant-loop-i l = (l.i-end ≡ length l.words) × Filled (λ k. bits (get_or l.words k 0)) (length l.words) l.floats l.i
