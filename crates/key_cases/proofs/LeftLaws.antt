@@ -1,26 +1,25 @@
 -- A door's outcome, with the rest of each buffer behind what the door was lent; and what a case says of the buffers.
 use Rattle.std.proofs.Common.{◌≡◌, ℕ, zero, suc, List, ◌++◌, sym, refl, ap, ◌∙◌}
 use lib.Ieee.{Float}
-use Rattle.phonon.specs.declared.Answer.{Answer}
-use Rattle.phonon.specs.Doors.{StrengthsOutcome, TotalsOutcome, JoinedOutcome, number_of}
-use Rattle.key_cases.specs.declared.Case.{Case}
+use Rattle.phonon.specs.Doors.{StrengthsOutcome, TotalsOutcome, JoinedOutcome}
+use Rattle.key_cases.specs.declared.case.Case.{Case}
 use Rattle.key_cases.specs.declared.Door.{Door}
 use Rattle.key_cases.specs.Left.{Left, strengths_left, totals_left, joined_left, accepted_of, expected_with}
 
-pub strengths_left_lem : (o : StrengthsOutcome) {a : Answer} {n : ℕ} {v w : List Float} (rest totals : List Float)
-    → ◌≡◌ {A = StrengthsOutcome} (record { answer = a; strengths = v; work = w }) o → n ≡ number_of a
+pub strengths_left_lem : (o : StrengthsOutcome) {n : ℕ} {v w : List Float} (rest totals : List Float)
+    → ◌≡◌ {A = StrengthsOutcome} (record { answer = n; strengths = v; work = w }) o
     → ◌≡◌ {A = Left} (record { number = n; strengths = v ++ rest; totals = totals; work = w }) (strengths_left o rest totals)
-strengths_left_lem o rest totals h p = rw p (ap (λ (x : StrengthsOutcome). strengths_left x rest totals) h)
+strengths_left_lem o rest totals h = ap (λ (x : StrengthsOutcome). strengths_left x rest totals) h
 
-pub totals_left_lem : (o : TotalsOutcome) {a : Answer} {n : ℕ} {u : List Float} (strengths rest work : List Float)
-    → ◌≡◌ {A = TotalsOutcome} (record { answer = a; totals = u }) o → n ≡ number_of a
+pub totals_left_lem : (o : TotalsOutcome) {n : ℕ} {u : List Float} (strengths rest work : List Float)
+    → ◌≡◌ {A = TotalsOutcome} (record { answer = n; totals = u }) o
     → ◌≡◌ {A = Left} (record { number = n; strengths = strengths; totals = u ++ rest; work = work }) (totals_left o strengths rest work)
-totals_left_lem o strengths rest work h p = rw p (ap (λ (x : TotalsOutcome). totals_left x strengths rest work) h)
+totals_left_lem o strengths rest work h = ap (λ (x : TotalsOutcome). totals_left x strengths rest work) h
 
-pub joined_left_lem : (o : JoinedOutcome) {a : Answer} {n : ℕ} {v u w : List Float} (rest others : List Float)
-    → ◌≡◌ {A = JoinedOutcome} (record { answer = a; strengths = v; totals = u; work = w }) o → n ≡ number_of a
+pub joined_left_lem : (o : JoinedOutcome) {n : ℕ} {v u w : List Float} (rest others : List Float)
+    → ◌≡◌ {A = JoinedOutcome} (record { answer = n; strengths = v; totals = u; work = w }) o
     → ◌≡◌ {A = Left} (record { number = n; strengths = v ++ rest; totals = u ++ others; work = w }) (joined_left o rest others)
-joined_left_lem o rest others h p = rw p (ap (λ (x : JoinedOutcome). joined_left x rest others) h)
+joined_left_lem o rest others h = ap (λ (x : JoinedOutcome). joined_left x rest others) h
 
 -- ---- what the case says
 

@@ -1,14 +1,14 @@
 -- The program's cases as the definitions' sets: what each door is handed of cell U with a case's change.
-use Rattle.std.specs.Prelude.{◌≡◌, ℕ, zero, suc, ◌*◌, ◌≤◌, Bool, cond, List, [], ◌++◌, length, take, ℤ, ◌==◌, Float}
-use Rattle.phonon.specs.declared.Anchoring.{Anchoring}
-use Rattle.phonon.specs.declared.Anchoring.TheVariants.{Plain, Averaged}
-use Rattle.phonon.specs.declared.Symmetry.{Symmetry}
-use Rattle.phonon.specs.declared.Symmetry.TheVariants.{Off, Symmetrized}
+use Rattle.std.specs.Prelude.{◌≡◌, ℕ, zero, suc, ◌*◌, ◌≤◌, cond, List, [], ◌∷◌, ◌++◌, length, take, replicate, ℤ, pos, ◌==◌, Float}
+use Rattle.phonon.specs.declared.Bath.{Bath}
 use Rattle.phonon.specs.declared.Weights.TheVariants.{PerSlot}
-use Rattle.phonon.specs.Sets.{TripletSet, ListSet, TotalsSet, JoinedSet}
+use Rattle.phonon.specs.Number.{f0}
+use Rattle.phonon.specs.Answers.{number_of}
+use Rattle.phonon.specs.Sets.{Tables, TripletSet, ListSet, TotalsSet, JoinedSet}
 use Rattle.phonon.specs.Doors.{JoinedOutcome}
 use Rattle.phonon.specs.KeyCases.{KeyCase, cell_u, worked, untouched}
-use Rattle.key_cases.specs.declared.Case.{Case}
+use Rattle.key_cases.specs.declared.case.Case.{Case}
+use Rattle.key_cases.specs.declared.case.Cell.{Cell}
 use Rattle.key_cases.specs.declared.Door.{Door}
 use Rattle.key_cases.specs.declared.Door.TheVariants.{Triplet, Totals, Joined}
 use Rattle.key_cases.specs.declared.Door.TheVariants as Doors
@@ -17,25 +17,33 @@ use Rattle.key_cases.specs.declared.Door.TheVariants as Doors
 abbrev pub Sized : Case → Type 0
 Sized c = (c.first ≤ 3) × (length c.bands ≡ 3) × (length c.flags ≡ 54) × (length c.strengths ≡ 27) × (length c.totals ≡ 3)
 
-unfoldable pub anchoring_of : Bool → Anchoring
-anchoring_of averaged = cond averaged Averaged Plain
-
-unfoldable pub symmetry_of : Bool → Symmetry
-symmetry_of symmetrized = cond symmetrized Symmetrized Off
-
 -- the bands and the flags are those that are handed in
 unfoldable pub cell_of : Case → List ℤ → List ℕ → JoinedSet
 cell_of c bands flags =
-    cell_u c.cutoff (anchoring_of c.averaged) (symmetry_of c.symmetrized) c.shortest c.nonzero c.constant c.count bands flags c.temperature
+    cell_u c.cutoff c.anchoring c.symmetry c.shortest c.nonzero c.constant c.count bands flags c.temperature
+
+-- its tables, for which no flag counts, and its bath
+unfoldable pub tables_of : Case → List ℤ → Tables
+tables_of c bands = (cell_of c bands []).tables
+
+unfoldable pub bath_of : Case → Bath
+bath_of c = (cell_of c [] []).bath
+
+-- the entries of the tables that a case may change
+pub record Entries (c : Case) (e : Cell) : Type 0 where
+  pub multiplicity : e.multiplicity ≡ c.count ∷ pos 0 ∷ []
+  pub shortest : e.shortest ≡ c.shortest ∷ []
+  pub nonzero : e.nonzero ≡ c.nonzero ∷ []
+  pub constants : e.constants ≡ replicate 5 f0 ++ c.constant ∷ replicate 21 f0
 
 -- the number by which the joined door turns a case away, or 0: the doors of the strengths test theirs first
 unfoldable pub joined_number : Case → ℕ
-joined_number c = cond (c.strengths_number == 0) c.totals_number c.strengths_number
+joined_number c = cond (number_of c.strengths_answer == 0) (number_of c.totals_answer) (number_of c.strengths_answer)
 
 unfoldable pub number_at : Door → Case → ℕ
-number_at Triplet c = c.strengths_number
-number_at Doors.List c = c.strengths_number
-number_at Totals c = c.totals_number
+number_at Triplet c = number_of c.strengths_answer
+number_at Doors.List c = number_of c.strengths_answer
+number_at Totals c = number_of c.totals_answer
 number_at Joined c = joined_number c
 
 unfoldable pub outcome_of : ℕ → Case → JoinedOutcome

@@ -2,8 +2,8 @@
 use Rattle.std.specs.Prelude.{ℕ, zero, suc, ◌*◌, List, ◌++◌, take, drop, replicate, Float}
 use Rattle.std.proofs.Math.Seq.{paste}
 use Rattle.phonon.specs.Number.{f0, f2}
-use Rattle.phonon.specs.Doors.{StrengthsOutcome, TotalsOutcome, JoinedOutcome, triplet_outcome, list_outcome, totals_outcome, joined_outcome, number_of}
-use Rattle.key_cases.specs.declared.Case.{Case}
+use Rattle.phonon.specs.Doors.{StrengthsOutcome, TotalsOutcome, JoinedOutcome, triplet_outcome, list_outcome, totals_outcome, joined_outcome}
+use Rattle.key_cases.specs.declared.case.Case.{Case}
 use Rattle.key_cases.specs.declared.Door.{Door}
 use Rattle.key_cases.specs.declared.Door.TheVariants.{Triplet, Totals, Joined}
 use Rattle.key_cases.specs.declared.Door.TheVariants as Doors
@@ -19,15 +19,15 @@ pub record Left : Type 0 where
 
 -- the strengths' rest, the totals
 abbrev pub strengths_left : StrengthsOutcome → List Float → List Float → Left
-strengths_left o rest totals = record { number = number_of o.answer; strengths = o.strengths ++ rest; totals = totals; work = o.work }
+strengths_left o rest totals = record { number = o.answer; strengths = o.strengths ++ rest; totals = totals; work = o.work }
 
 -- the strengths, the totals' rest, the work buffer
 abbrev pub totals_left : TotalsOutcome → List Float → List Float → List Float → Left
-totals_left o strengths rest work = record { number = number_of o.answer; strengths = strengths; totals = o.totals ++ rest; work = work }
+totals_left o strengths rest work = record { number = o.answer; strengths = strengths; totals = o.totals ++ rest; work = work }
 
 -- the rests of strengths and totals
 abbrev pub joined_left : JoinedOutcome → List Float → List Float → Left
-joined_left o rest others = record { number = number_of o.answer; strengths = o.strengths ++ rest; totals = o.totals ++ others; work = o.work }
+joined_left o rest others = record { number = o.answer; strengths = o.strengths ++ rest; totals = o.totals ++ others; work = o.work }
 
 unfoldable pub run_of : Door → Case → List Float → List Float → List Float → Left
 run_of Triplet c strengths totals work =

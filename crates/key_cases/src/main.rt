@@ -5,59 +5,39 @@
 // M11's temperature to the doors of the strengths. A list has the triplet twice. Totals alone reads the case's strengths.
 #![tactic(auto)]
 
+mod case;
+
 ghost use Rattle.std.specs.Prelude.{◌≡◌, ◌+◌, ◌-◌, ◌≤◌, true, ◌∷◌, ◌++◌, length, replicate, slice_index_or};
 ghost use Rattle.std.proofs.Math.Seq.{paste};
+ghost use Rattle.phonon.specs.Answers.{number_of};
 ghost use Rattle.phonon.specs.Number.{f0};
 ghost use Rattle.phonon.specs.KeyCases.{M1, key_cases};
+ghost use Rattle.phonon.specs.Handed.{tables_of};
 ghost use Rattle.phonon.specs.Doors.{StrengthsOutcome, TotalsOutcome, JoinedOutcome, triplet_outcome, list_outcome, totals_outcome, joined_outcome};
 ghost use Rattle.key_cases.specs.Cells as Cells;
 ghost use Rattle.key_cases.specs.Left.{Left, run_of, expected_of};
 
+use crate::case::{Buffers, Case, Cell};
 use common::bits::bits_of;
 use phonon::{
-    Anchoring, Answer, Bath, Form, Measures, Settings, Symmetry, TotalsMeasures, Weights,
+    Anchoring, Bath, Crystal, Forces, Form, Grid, IntegrationWeights, Measures, Phonons, Refusal,
+    Settings, Symmetry, Tables, TotalsMeasures, Weights, number_of,
 };
-use refusals::number_of;
-use std::io;
+use std::{fmt, io};
 
 // ---- the table
 
-// A case: what it may change in cell U, and the result that document 01 names.
-#[derive(Clone, Copy)]
-struct Case {
-    cutoff: f64,
-    averaged: bool,
-    symmetrized: bool,
-    // the one entry of all-shortest and of nonzero, and the force constant at (0, 1, 2)
-    shortest: u8,
-    nonzero: u8,
-    constant: f64,
-    // the multiplicity's count
-    count: i64,
-    // F, and the bands, of which the first F are handed in
-    first: usize,
-    bands: [i64; 3],
-    // of two triplets, 9 * F slots each
-    flags: [u8; 54],
-    temperature: f64,
-    // the number by which the doors of the strengths turn the case away, and that by which totals alone does; 0 is none
-    strengths_number: u8,
-    totals_number: u8,
-    strengths: [f64; 27],
-    totals: [f64; 3],
-}
-
 // Case Mn: set and result are those of the definitions' table, which has also the totals that document 01 leaves out. Slot
 // (0, 1, 2) is number 5.
-#[tactic(auto, unfolding(crate::specs::Cells::key_case_of, crate::specs::Cells::cell_of, crate::specs::Cells::outcome_of, crate::specs::Cells::joined_number, crate::specs::Cells::anchoring_of, crate::specs::Cells::symmetry_of, phonon::proofs::Evaluate::evaluate))]
+#[tactic(auto, unfolding(crate::specs::Cells::key_case_of, crate::specs::Cells::cell_of, crate::specs::Cells::outcome_of, crate::specs::Cells::joined_number, phonon::proofs::Evaluate::evaluate))]
 fn case_of(n: usize) -> Case
     requires { (1 ≤ n) × (n ≤ 11) }
     ensures { Cells.Sized result × (Cells.key_case_of result ≡ slice_index_or key_cases (n - 1) M1) }
 {
     let mut c = Case {
         cutoff: 0.5,
-        averaged: false,
-        symmetrized: false,
+        anchoring: Anchoring::Plain,
+        symmetry: Symmetry::Off,
         shortest: 0,
         nonzero: 1,
         constant: 16.0,
@@ -66,8 +46,8 @@ fn case_of(n: usize) -> Case
         bands: [0, 1, 2],
         flags: [0; 54],
         temperature: 0.0,
-        strengths_number: 0,
-        totals_number: 0,
+        strengths_answer: Ok(()),
+        totals_answer: Ok(()),
         strengths: [0.0; 27],
         totals: [3.0, 0.0, 0.0],
     };
@@ -90,7 +70,7 @@ fn case_of(n: usize) -> Case
         5 => {
             c.flags[5] = 1;
             c.flags[32] = 1;
-            c.symmetrized = true;
+            c.symmetry = Symmetry::Symmetrized;
             c.strengths[5] = 0.0;
             c.strengths[7] = TWELFTH;
             c.strengths[11] = TWELFTH;
@@ -100,11 +80,11 @@ fn case_of(n: usize) -> Case
             c.totals = [0.5, 1.0, 1.0];
         }
         6 => {
-            c.averaged = true;
+            c.anchoring = Anchoring::Averaged;
             c.shortest = 1;
         }
         7 => {
-            c.averaged = true;
+            c.anchoring = Anchoring::Averaged;
             c.constant = 48.0;
             c.strengths[11] = 0.5;
             c.strengths[21] = 0.5;
@@ -123,11 +103,11 @@ fn case_of(n: usize) -> Case
         }
         10 => {
             c.count = 0;
-            c.strengths_number = 3;
+            c.strengths_answer = Err(Refusal::Index);
         }
         11 => {
             c.temperature = -0.0;
-            c.totals_number = 8;
+            c.totals_answer = Err(Refusal::Bath);
         }
         _ => {}
     }
@@ -140,6 +120,10 @@ const TWELFTH: f64 = 0.08333333333333333;
 // ---- the doors
 
 const VECTOR: [f64; 3] = [0.0, 0.0, 0.0];
+
+const FIRST_ATOM: [i64; 1] = [0];
+
+const POINTS: [i64; 3] = [0, 0, 0];
 
 const MASSES: [f64; 1] = [4.0];
 
@@ -154,24 +138,6 @@ const FIRST_WEIGHTS: [f64; 27] = [2.0; 27];
 
 const SECOND_WEIGHTS: [f64; 27] = [0.0; 27];
 
-fn anchoring_of(averaged: bool) -> Anchoring
-    ensures { result ≡ Cells.anchoring_of averaged }
-{
-    if averaged {
-        return Anchoring::Averaged;
-    }
-    Anchoring::Plain
-}
-
-fn symmetry_of(symmetrized: bool) -> Symmetry
-    ensures { result ≡ Cells.symmetry_of symmetrized }
-{
-    if symmetrized {
-        return Symmetry::Symmetrized;
-    }
-    Symmetry::Off
-}
-
 // The force constants: 0 but x at (0, 1, 2).
 fn constants_of(x: f64) -> [f64; 27]
     ensures { result ≡ replicate 5 f0 ++ x ∷ replicate 21 f0 }
@@ -181,47 +147,106 @@ fn constants_of(x: f64) -> [f64; 27]
     r
 }
 
-// One triplet.
-fn run_triplet(
-    c: Case,
-    bands: &[i64],
-    flags: &[u8],
-    strengths: &mut [f64],
-    work: &mut [f64],
-) -> Answer
-    ensures { ◌≡◌ {A = StrengthsOutcome}
-        (record { answer = result; strengths = strengths.new; work = work.new })
-        (triplet_outcome (Cells.triplet_of c bands.now flags.now strengths.old work.old)) }
+// The case's own entries of the tables.
+fn entries_of(c: &Case) -> Cell
+    ensures { Cells.Entries c.now result }
 {
-    interaction::get_interaction_at_triplet(
-        Measures {
+    Cell {
+        multiplicity: [c.count, 0],
+        shortest: [c.shortest],
+        nonzero: [c.nonzero],
+        constants: constants_of(c.constant),
+    }
+}
+
+// The tables of cell U with the case's change.
+fn tables<'a>(c: &Case, entries: &'a Cell, bands: &'a [i64]) -> Tables<'a>
+    requires { Cells.Entries c.now entries.now }
+    ensures { tables_of result ≡ Cells.tables_of c.now bands.now }
+{
+    Tables {
+        measures: Measures {
             atoms: 1,
             supercell: 1,
             first: bands.len(),
             grid: 1,
             vectors: 1,
         },
-        Settings {
-            anchoring: anchoring_of(c.averaged),
+        settings: Settings {
+            anchoring: c.anchoring,
             cutoff: c.cutoff,
         },
-        Form::Compact,
-        symmetry_of(c.symmetrized),
-        [1, 1, 1],
-        [1, 0, 0, 0, 1, 0, 0, 0, 1],
-        [0, 0, 0],
-        &[0, 0, 0],
-        &VECTOR,
-        &[c.count, 0],
-        &[0],
-        &[0],
-        &MASSES,
+        symmetry: c.symmetry,
+        crystal: Crystal {
+            vectors: &VECTOR,
+            multiplicity: &entries.multiplicity,
+            masses: &MASSES,
+            forces: Forces {
+                form: Form::Compact,
+                p2s: &FIRST_ATOM,
+                s2p: &FIRST_ATOM,
+                shortest: &entries.shortest,
+                nonzero: &entries.nonzero,
+                constants: &entries.constants,
+            },
+        },
+        grid: Grid {
+            mesh: [1, 1, 1],
+            matrix: [1, 0, 0, 0, 1, 0, 0, 0, 1],
+            addresses: &POINTS,
+        },
         bands,
-        &FREQUENCIES,
-        &EIGENVECTORS,
-        &[c.shortest],
-        &[c.nonzero],
-        &constants_of(c.constant),
+        phonons: Phonons {
+            frequencies: &FREQUENCIES,
+            eigenvectors: &EIGENVECTORS,
+        },
+    }
+}
+
+fn bath_of(c: &Case) -> Bath
+    ensures { result ≡ Cells.bath_of c.now }
+{
+    Bath {
+        weight: 3,
+        temperature: c.temperature,
+    }
+}
+
+#[derive(Clone, Copy)]
+enum Door {
+    Triplet,
+    List,
+    Totals,
+    Joined,
+}
+
+impl fmt::Display for Door {
+    fn fmt<W: fmt::Write>(&self, f: &mut fmt::Formatter<W>) -> fmt::Result {
+        match self {
+            Door::Triplet => write!(f, "triplet"),
+            Door::List => write!(f, "list"),
+            Door::Totals => write!(f, "totals"),
+            Door::Joined => write!(f, "joined"),
+        }
+    }
+}
+
+// One triplet.
+fn run_triplet(
+    c: &Case,
+    bands: &[i64],
+    flags: &[u8],
+    strengths: &mut [f64],
+    work: &mut [f64],
+) -> Result<(), Refusal>
+    ensures { ◌≡◌ {A = StrengthsOutcome}
+        (record { answer = number_of result; strengths = strengths.new; work = work.new })
+        (triplet_outcome (Cells.triplet_of c.now bands.now flags.now strengths.old work.old)) }
+{
+    let entries = entries_of(c);
+    interaction::get_interaction_at_triplet(
+        &tables(c, &entries, bands),
+        [0, 0, 0],
         flags,
         strengths,
         work,
@@ -229,41 +254,22 @@ fn run_triplet(
 }
 
 // A list of the triplet twice.
-fn run_list(c: Case, bands: &[i64], flags: &[u8], strengths: &mut [f64], work: &mut [f64]) -> Answer
+fn run_list(
+    c: &Case,
+    bands: &[i64],
+    flags: &[u8],
+    strengths: &mut [f64],
+    work: &mut [f64],
+) -> Result<(), Refusal>
     ensures { ◌≡◌ {A = StrengthsOutcome}
-        (record { answer = result; strengths = strengths.new; work = work.new })
-        (list_outcome (Cells.list_of c bands.now flags.now strengths.old work.old)) }
+        (record { answer = number_of result; strengths = strengths.new; work = work.new })
+        (list_outcome (Cells.list_of c.now bands.now flags.now strengths.old work.old)) }
 {
+    let entries = entries_of(c);
     interaction::list::get_interaction(
-        Measures {
-            atoms: 1,
-            supercell: 1,
-            first: bands.len(),
-            grid: 1,
-            vectors: 1,
-        },
-        Settings {
-            anchoring: anchoring_of(c.averaged),
-            cutoff: c.cutoff,
-        },
-        Form::Compact,
-        symmetry_of(c.symmetrized),
-        [1, 1, 1],
-        [1, 0, 0, 0, 1, 0, 0, 0, 1],
+        &tables(c, &entries, bands),
         2,
         &[0, 0, 0, 0, 0, 0],
-        &[0, 0, 0],
-        &VECTOR,
-        &[c.count, 0],
-        &[0],
-        &[0],
-        &MASSES,
-        bands,
-        &FREQUENCIES,
-        &EIGENVECTORS,
-        &[c.shortest],
-        &[c.nonzero],
-        &constants_of(c.constant),
         flags,
         strengths,
         work,
@@ -272,7 +278,7 @@ fn run_list(c: Case, bands: &[i64], flags: &[u8], strengths: &mut [f64], work: &
 
 // One triplet and its totals joined.
 fn run_joined(
-    c: Case,
+    c: &Case,
     bands: &[i64],
     flags: &[u8],
     first: &[f64],
@@ -280,49 +286,20 @@ fn run_joined(
     strengths: &mut [f64],
     totals: &mut [f64],
     work: &mut [f64],
-) -> Answer
+) -> Result<(), Refusal>
     ensures { ◌≡◌ {A = JoinedOutcome}
-        (record { answer = result; strengths = strengths.new; totals = totals.new; work = work.new })
+        (record { answer = number_of result; strengths = strengths.new; totals = totals.new; work = work.new })
         (joined_outcome
-        (Cells.joined_of c bands.now flags.now first.now second.now
+        (Cells.joined_of c.now bands.now flags.now first.now second.now
         strengths.old totals.old work.old)) }
 {
+    let entries = entries_of(c);
     joined::joined_at_triplet(
-        Measures {
-            atoms: 1,
-            supercell: 1,
-            first: bands.len(),
-            grid: 1,
-            vectors: 1,
-        },
-        Settings {
-            anchoring: anchoring_of(c.averaged),
-            cutoff: c.cutoff,
-        },
-        Form::Compact,
-        symmetry_of(c.symmetrized),
-        Bath {
-            weight: 3,
-            temperature: c.temperature,
-        },
-        [1, 1, 1],
-        [1, 0, 0, 0, 1, 0, 0, 0, 1],
+        &tables(c, &entries, bands),
         [0, 0, 0],
-        &[0, 0, 0],
-        &VECTOR,
-        &[c.count, 0],
-        &[0],
-        &[0],
-        &MASSES,
-        bands,
-        &FREQUENCIES,
-        &EIGENVECTORS,
-        &[c.shortest],
-        &[c.nonzero],
-        &constants_of(c.constant),
         flags,
-        first,
-        second,
+        bath_of(c),
+        IntegrationWeights { first, second },
         strengths,
         totals,
         work,
@@ -331,16 +308,16 @@ fn run_joined(
 
 // Totals alone.
 fn run_totals(
-    c: Case,
+    c: &Case,
     flags: &[u8],
     first: &[f64],
     second: &[f64],
     strengths: &[f64],
     totals: &mut [f64],
-) -> Answer
-    ensures { ◌≡◌ {A = TotalsOutcome} (record { answer = result; totals = totals.new })
+) -> Result<(), Refusal>
+    ensures { ◌≡◌ {A = TotalsOutcome} (record { answer = number_of result; totals = totals.new })
         (totals_outcome
-        (Cells.totals_of c flags.now first.now second.now strengths.now
+        (Cells.totals_of c.now flags.now first.now second.now strengths.now
         totals.old)) }
 {
     imag_self_energy::imag_self_energy_at_triplet(
@@ -355,59 +332,44 @@ fn run_totals(
         c.cutoff,
         flags,
         strengths,
-        Bath {
-            weight: 3,
-            temperature: c.temperature,
-        },
-        first,
-        second,
+        bath_of(c),
+        IntegrationWeights { first, second },
         totals,
     )
 }
 
-#[derive(Clone, Copy)]
-enum Door {
-    Triplet,
-    List,
-    Totals,
-    Joined,
-}
-
-// Lends a door the part of each buffer that the case's F names, and returns its answer's number.
-fn run(door: Door, c: Case, strengths: &mut [f64], totals: &mut [f64], work: &mut [f64]) -> u8
-    requires { Cells.Sized c × (length strengths.old ≡ 54) × (length totals.old ≡ 3) }
+// Lends a door the part of each buffer that the case's F names, and returns its answer.
+fn run(
+    door: Door,
+    c: &Case,
+    strengths: &mut [f64; 54],
+    totals: &mut [f64; 3],
+    work: &mut [f64; 205],
+) -> Result<(), Refusal>
+    requires { Cells.Sized c.now }
     ensures { ◌≡◌ {A = Left}
-        (record { number = result; strengths = strengths.new; totals = totals.new; work = work.new })
-        (run_of door c strengths.old totals.old work.old) }
+        (record { number = number_of result; strengths = strengths.new; totals = totals.new; work = work.new })
+        (run_of door c.now strengths.old totals.old work.old) }
 {
     let first = c.first;
     let slots = 9 * first;
     let both = 18 * first;
-    let all_bands = c.bands;
-    let all_flags = c.flags;
-    let all_strengths = c.strengths;
-    let bands = &all_bands[..first];
-    let flags = &all_flags[..slots];
+    let bands = &c.bands[..first];
+    let flags = &c.flags[..slots];
     let firsts = &FIRST_WEIGHTS[..slots];
     let seconds = &SECOND_WEIGHTS[..slots];
     match door {
-        Door::Triplet => number_of(run_triplet(c, bands, flags, &mut strengths[..slots], work)),
-        Door::List => number_of(run_list(
-            c,
-            bands,
-            &all_flags[..both],
-            &mut strengths[..both],
-            work,
-        )),
-        Door::Totals => number_of(run_totals(
+        Door::Triplet => run_triplet(c, bands, flags, &mut strengths[..slots], work),
+        Door::List => run_list(c, bands, &c.flags[..both], &mut strengths[..both], work),
+        Door::Totals => run_totals(
             c,
             flags,
             firsts,
             seconds,
-            &all_strengths[..slots],
+            &c.strengths[..slots],
             &mut totals[..first],
-        )),
-        Door::Joined => number_of(run_joined(
+        ),
+        Door::Joined => run_joined(
             c,
             bands,
             flags,
@@ -416,26 +378,21 @@ fn run(door: Door, c: Case, strengths: &mut [f64], totals: &mut [f64], work: &mu
             &mut strengths[..slots],
             &mut totals[..first],
             work,
-        )),
+        ),
     }
 }
 
 // ---- what the doors are to leave
 
-// The number that the case names; the doors of the strengths test theirs first.
-fn expected_number(door: Door, c: Case) -> u8
-    ensures { result ≡ Cells.number_at door c }
+// The answer that the case names; the doors of the strengths test theirs first.
+fn expected_answer(door: Door, c: &Case) -> Result<(), Refusal>
+    ensures { number_of result ≡ Cells.number_at door c.now }
 {
     match door {
-        Door::Triplet => c.strengths_number,
-        Door::List => c.strengths_number,
-        Door::Totals => c.totals_number,
-        Door::Joined => {
-            if c.strengths_number == 0 {
-                return c.totals_number;
-            }
-            c.strengths_number
-        }
+        Door::Triplet => c.strengths_answer,
+        Door::List => c.strengths_answer,
+        Door::Totals => c.totals_answer,
+        Door::Joined => c.strengths_answer.and(c.totals_answer),
     }
 }
 
@@ -444,9 +401,7 @@ fn copy(from: &[f64], to: &mut [f64], at: usize, n: usize)
     requires { (n ≤ length from.now) × (at + n ≤ length to.old) }
     ensures { to.new ≡ paste to.old at from.now n }
 {
-    for i in 0..n {
-        to[at + i] = from[i];
-    }
+    to[at..at + n].copy_from_slice(&from[..n]);
 }
 
 // W of cell U, with P = S = 1.
@@ -455,35 +410,39 @@ const W: usize = 203;
 const ZEROS: [f64; 203] = [0.0; 203];
 
 // Writes what the door is to leave, in the parts that it is lent. A refused call leaves everything as found.
-fn expect(door: Door, c: Case, strengths: &mut [f64], totals: &mut [f64], work: &mut [f64])
-    requires { Cells.Sized c × (length strengths.old ≡ 54) × (length totals.old ≡ 3) × (length work.old ≡ 205) }
+fn expect(
+    door: Door,
+    c: &Case,
+    strengths: &mut [f64; 54],
+    totals: &mut [f64; 3],
+    work: &mut [f64; 205],
+)
+    requires { Cells.Sized c.now }
     ensures { ◌≡◌ {A = Left}
-        (record { number = Cells.number_at door c; strengths = strengths.new; totals = totals.new; work = work.new })
-        (expected_of door c strengths.old totals.old work.old) }
+        (record { number = Cells.number_at door c.now; strengths = strengths.new; totals = totals.new; work = work.new })
+        (expected_of door c.now strengths.old totals.old work.old) }
 {
-    if expected_number(door, c) != 0 {
+    if number_of(expected_answer(door, c)) != 0 {
         return;
     }
     let first = c.first;
     let slots = 9 * first;
-    let held = c.strengths;
-    let sums = c.totals;
     match door {
         Door::Triplet => {
-            copy(&held, strengths, 0, slots);
+            copy(&c.strengths, strengths, 0, slots);
             copy(&ZEROS, work, 0, W);
         }
         Door::List => {
-            copy(&held, strengths, 0, slots);
-            copy(&held, strengths, slots, slots);
+            copy(&c.strengths, strengths, 0, slots);
+            copy(&c.strengths, strengths, slots, slots);
             copy(&ZEROS, work, 0, W);
         }
         Door::Totals => {
-            copy(&sums, totals, 0, first);
+            copy(&c.totals, totals, 0, first);
         }
         Door::Joined => {
-            copy(&held, strengths, 0, slots);
-            copy(&sums, totals, 0, first);
+            copy(&c.strengths, strengths, 0, slots);
+            copy(&c.totals, totals, 0, first);
             copy(&ZEROS, work, 0, W);
         }
     }
@@ -506,48 +465,42 @@ fn same(found: &[f64], expected: &[f64]) -> bool
     true
 }
 
-// Writes a word if the part that it names differs.
-fn print_difference(rt: &impl Print, agrees: bool, word: &str) -> io::Result<()> {
-    if !agrees {
-        print!(rt; "{word}")?;
-    }
-    Ok(())
-}
-
 // Runs a case through a door, writes the answer and what differs, and returns whether nothing does. Every buffer holds -1.0
 // before the call.
-fn passes(rt: &impl Print, door: Door, name: &str, c: Case) -> io::Result<bool>
-    requires { Cells.Sized c }
+fn passes(rt: &impl Print, door: Door, c: &Case) -> io::Result<bool>
+    requires { Cells.Sized c.now }
 {
-    let mut strengths = [-1.0; 54];
-    let mut totals = [-1.0; 3];
-    let mut work = [-1.0; 205];
-    let mut expected_strengths = [-1.0; 54];
-    let mut expected_totals = [-1.0; 3];
-    let mut expected_work = [-1.0; 205];
-    let number = run(door, c, &mut strengths, &mut totals, &mut work);
+    let mut found = Buffers::new();
+    let mut expected = Buffers::new();
+    let answer = run(
+        door,
+        c,
+        &mut found.strengths,
+        &mut found.totals,
+        &mut found.work,
+    );
     expect(
         door,
         c,
-        &mut expected_strengths,
-        &mut expected_totals,
-        &mut expected_work,
+        &mut expected.strengths,
+        &mut expected.totals,
+        &mut expected.work,
     );
-    let answer_agrees = number == expected_number(door, c);
-    let strengths_agree = same(&strengths, &expected_strengths);
-    let totals_agree = same(&totals, &expected_totals);
-    let work_agrees = same(&work, &expected_work);
-    let good = answer_agrees & strengths_agree & totals_agree & work_agrees;
-    print!(rt; "{name}{number}")?;
-    print_difference(rt, answer_agrees, " answer")?;
-    print_difference(rt, strengths_agree, " strengths")?;
-    print_difference(rt, totals_agree, " totals")?;
-    print_difference(rt, work_agrees, " work")?;
-    if good {
-        print!(rt; " ok")?;
-    } else {
-        print!(rt; " differ")?;
+    let agreements = [
+        (answer == expected_answer(door, c), "answer"),
+        (same(&found.strengths, &expected.strengths), "strengths"),
+        (same(&found.totals, &expected.totals), "totals"),
+        (same(&found.work, &expected.work), "work"),
+    ];
+    print!(rt; "{door} {}", number_of(answer))?;
+    let mut good = true;
+    for (agrees, word) in agreements {
+        if !agrees {
+            print!(rt; " {word}")?;
+        }
+        good = good & agrees;
     }
+    print!(rt; " {}", if good { "ok" } else { "differ" })?;
     Ok(good)
 }
 
@@ -556,13 +509,16 @@ fn case_passes(rt: &impl Print, n: usize) -> io::Result<bool>
     requires { (1 ≤ n) × (n ≤ 11) }
 {
     let c = case_of(n);
+    let mut good = true;
     print!(rt; "M{n}")?;
-    let triplet = passes(rt, Door::Triplet, " triplet ", c)?;
-    let list = passes(rt, Door::List, ", list ", c)?;
-    let totals = passes(rt, Door::Totals, ", totals ", c)?;
-    let joined = passes(rt, Door::Joined, ", joined ", c)?;
+    let mut between = " ";
+    for door in [Door::Triplet, Door::List, Door::Totals, Door::Joined] {
+        print!(rt; "{between}")?;
+        good = good & passes(rt, door, &c)?;
+        between = ", ";
+    }
     println!(rt;)?;
-    Ok(triplet & list & totals & joined)
+    Ok(good)
 }
 
 fn main(rt: HostRuntime) -> io::Result<()> {

@@ -9,26 +9,26 @@ pub returns-in-Triplet : goal.returns-in-Triplet
 unfolding run_of
 returns-in-Triplet c =
     let a = c.args in
-    strengths_left_lem _ (drop (9 * a.c.first) a.strengths.now) a.totals.now c.run_triplet.ensures c.number_of.ensures
-    ∙ ap (λ (d : Door). run_of d a.c a.strengths.now a.totals.now a.work.now) (sym c.in-Triplet.is)
+    strengths_left_lem _ (drop (9 * a.c.now.first) a.strengths.now) a.totals.now c.run_triplet.ensures
+    ∙ ap (λ (d : Door). run_of d a.c.now a.strengths.now a.totals.now a.work.now) (sym c.in-Triplet.is)
 
 pub returns-in-List : goal.returns-in-List
 unfolding run_of
 returns-in-List c =
     let a = c.args in
-    strengths_left_lem _ (drop (18 * a.c.first) a.strengths.now) a.totals.now c.run_list.ensures c.number_of-in-List.ensures
-    ∙ ap (λ (d : Door). run_of d a.c a.strengths.now a.totals.now a.work.now) (sym c.in-List.is)
+    strengths_left_lem _ (drop (18 * a.c.now.first) a.strengths.now) a.totals.now c.run_list.ensures
+    ∙ ap (λ (d : Door). run_of d a.c.now a.strengths.now a.totals.now a.work.now) (sym c.in-List.is)
 
 pub returns-in-Totals : goal.returns-in-Totals
 unfolding run_of
 returns-in-Totals c =
     let a = c.args in
-    totals_left_lem _ a.strengths.now (drop a.c.first a.totals.now) a.work.now c.run_totals.ensures c.number_of-in-Totals.ensures
-    ∙ ap (λ (d : Door). run_of d a.c a.strengths.now a.totals.now a.work.now) (sym c.in-Totals.is)
+    totals_left_lem _ a.strengths.now (drop a.c.now.first a.totals.now) a.work.now c.run_totals.ensures
+    ∙ ap (λ (d : Door). run_of d a.c.now a.strengths.now a.totals.now a.work.now) (sym c.in-Totals.is)
 
 pub returns-in-Joined : goal.returns-in-Joined
 unfolding run_of
 returns-in-Joined c =
     let a = c.args in
-    joined_left_lem _ (drop (9 * a.c.first) a.strengths.now) (drop a.c.first a.totals.now) c.run_joined.ensures c.number_of-in-Joined.ensures
-    ∙ ap (λ (d : Door). run_of d a.c a.strengths.now a.totals.now a.work.now) (sym c.in-Joined.is)
+    joined_left_lem _ (drop (9 * a.c.now.first) a.strengths.now) (drop a.c.now.first a.totals.now) c.run_joined.ensures
+    ∙ ap (λ (d : Door). run_of d a.c.now a.strengths.now a.totals.now a.work.now) (sym c.in-Joined.is)

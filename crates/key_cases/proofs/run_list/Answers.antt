@@ -1,11 +1,8 @@
 -- The door's outcome, of cell U with the case's change.
-use mir.ValLaws.{to_z-of_z}
-use borrow.Author.Rules.{rules}
-use mir.Syntax.{w64}
 use Rattle.phonon.specs.KeyCases.{cell_u}
-use Rattle.key_cases.specs.Cells.{cell_of, list_of}
+use Rattle.key_cases.specs.Cells.{cell_of, tables_of, list_of}
 use Rattle.key_cases.proofs.run_list.Goals as goal
 
 pub returns : goal.returns
-unfolding list_of cell_of cell_u
-returns c = rw (c.constants_of.ensures, c.symmetry_of.ensures, c.anchoring_of.ensures, to_z-of_z w64 c.args.c.count (search rules)) at c.get_interaction.ensures
+unfolding list_of tables_of cell_of cell_u
+returns c = rw (c.tables.ensures) at c.get_interaction.ensures
