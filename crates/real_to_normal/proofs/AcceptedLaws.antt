@@ -57,11 +57,11 @@ module _ (s : TripletSet) (e : triplet_refusal s ≡ 0) where
         ranges = facts.indexed.ranges;
       }
 
-  anchored : Anchored s.tables.crystal.vectors s.tables.crystal.multiplicity s.tables.crystal.forces.p2s P
+  pub anchored : Anchored s.tables.crystal.vectors s.tables.crystal.multiplicity s.tables.crystal.forces.p2s P
   anchored =
       record { supercell = S; some = facts.measured.supercell; atoms = facts.sized.p2s; anchors = facts.indexed.p2s; ranged = ranged }
 
-  shaped : Shaped P S s.tables.crystal.forces
+  pub shaped : Shaped P S s.tables.crystal.forces
   shaped =
       record {
         some = facts.measured.supercell;
@@ -109,7 +109,7 @@ module _ (s : TripletSet) (e : triplet_refusal s ≡ 0) where
         let a : (g + 1) * (3 * P) ≤ s.tables.measures.grid * (3 * P) = rw add-one (mul-le-mul_right (3 * P) point_lt) in
         omega (arith, facts.sized.frequencies)
 
-    eigenvector_fits : 2 * ((g + 1) * (3 * P * (3 * P))) ≤ length s.tables.phonons.eigenvectors
+    pub eigenvector_fits : 2 * ((g + 1) * (3 * P * (3 * P))) ≤ length s.tables.phonons.eigenvectors
     eigenvector_fits =
         let a : (g + 1) * (3 * P * (3 * P)) ≤ s.tables.measures.grid * (3 * P * (3 * P)) = rw add-one (mul-le-mul_right (3 * P * (3 * P)) point_lt) in
         omega (arith, facts.sized.eigenvectors)

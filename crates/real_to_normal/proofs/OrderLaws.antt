@@ -1,7 +1,7 @@
 -- One leg order: the tables that lie before the force constants are what the definition reads.
 use mathlib.Core.Path.{◌≡◌, refl, ap, ◌∙◌}
 use mathlib.Core.List.{List}
-use Prim.Native.Nat.{ℕ, zero, suc, ◌+◌, ◌*◌, ◌<◌, ◌≤◌}
+use Prim.Native.Nat.{ℕ, zero, suc, ◌+◌, ◌*◌, ◌<◌}
 use native.Mathlib.Omega.{arith}
 use lib.ListN.{get_or}
 use lib.Ieee.{Float}
@@ -15,7 +15,7 @@ use Rattle.planes.specs.Layout.{numbers_in, constants_in}
 use Rattle.planes.proofs.RegionLaws.{outside_then, outside_wider, outside_split}
 use Rattle.planes.proofs.WorkLaws.{numbers_below, numbers_wrote}
 use Rattle.planes.proofs.Products.{row_le}
-use Rattle.real_to_reciprocal.specs.Stored.{region_end, FactorsBelow}
+use Rattle.real_to_reciprocal.specs.Stored.{region_end}
 use Rattle.real_to_normal.specs.Work.{columns_at, factors_at, pre_at, constants_at, scratch_at, places, Order, Factored, picked, reciprocal_of}
 
 -- where leg x's numbers begin
@@ -38,28 +38,6 @@ module _ (t : Tables) (order : List ℕ) (o : Order order) where
   -- the legs in this order
   abbrev legs : {A : Type 0} → Legs A → Legs A
   legs s = picked s (get_or order 0 0) (get_or order 1 0) (get_or order 2 0)
-
-  -- where their factors begin
-  pub factors_below : {s f : Legs ℕ} → s ≡ places (columns_at P 3) (2 * (P * S)) → f ≡ legs s → FactorsBelow (constants_at P S) (pre_at P S) f P S
-  factors_below {s} {f} es ef =
-      record {
-        pre = omega arith;
-        leg0 = below (get_or order 0 0) f.leg0 o.leg0 (ap (λ d. d.leg0) ef);
-        leg1 = below (get_or order 1 0) f.leg1 o.leg1 (ap (λ d. d.leg1) ef);
-        leg2 = below (get_or order 2 0) f.leg2 o.leg2 (ap (λ d. d.leg2) ef);
-      }
-    where
-      below : (x a : ℕ) → x < 3 → a ≡ leg s x → a + 2 * (P * S) ≤ constants_at P S
-      below x a p e = omega (arith, placed (columns_at P 3) (2 * (P * S)) es x a p e, row_le (2 * (P * S)) p)
-
-  -- where their columns end
-  pub columns_end : {s e : Legs ℕ} → s ≡ places P (2 * (3 * P * (3 * P))) → e ≡ legs s
-      → (e.leg0 + 2 * (3 * P * (3 * P)) ≤ scratch_at P S) × (e.leg1 + 2 * (3 * P * (3 * P)) ≤ scratch_at P S) × (e.leg2 + 2 * (3 * P * (3 * P)) ≤ scratch_at P S)
-  columns_end {s} {e} es h =
-      (below (get_or order 0 0) e.leg0 o.leg0 (ap (λ d. d.leg0) h), below (get_or order 1 0) e.leg1 o.leg1 (ap (λ d. d.leg1) h), below (get_or order 2 0) e.leg2 o.leg2 (ap (λ d. d.leg2) h))
-    where
-      below : (x a : ℕ) → x < 3 → a ≡ leg s x → a + 2 * (3 * P * (3 * P)) ≤ scratch_at P S
-      below x a p h = omega (arith, placed P (2 * (3 * P * (3 * P))) es x a p h, row_le (2 * (3 * P * (3 * P))) p)
 
   module _ (q : Legs (List Float)) {l l₁ l₂ : List Float} {p : Legs (List Float)} {s f : Legs ℕ} (ep : p ≡ legs q) (es : s ≡ places (columns_at P 3) (2 * (P * S))) (ef : f ≡ legs s)
       (h : Factored l t q)

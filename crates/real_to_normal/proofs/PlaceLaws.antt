@@ -7,56 +7,18 @@ use lib.Ieee.{Float}
 use Rattle.planes.specs.Region.{SameOutside}
 use Rattle.planes.proofs.RegionLaws.{outside_then, outside_wider}
 use Rattle.planes.proofs.Products.{row_le}
-use Rattle.real_to_reciprocal.specs.Stored.{region_end}
 use Rattle.real_to_normal.specs.Work.{columns_at, factors_at, pre_at, constants_at, scratch_at, listing_at, end_at}
 
-pub few : {P : ℕ} → P ≤ 256 → P ≤ 1000
-few h = omega arith
-
-pub same_le : {m n : ℕ} → m ≡ n → n ≤ m
-same_le e = omega arith
-
--- the three legs
-pub first : 0 < 3
-first = omega arith
-
-pub second : 1 < 3
-second = omega arith
-
-pub third : 2 < 3
-third = omega arith
-
 module _ (P S : ℕ) where
+  -- a leg's columns and factors
+  pub columns_end : {x e : ℕ} → x < 3 → e ≡ columns_at P x → e + 2 * (3 * P * (3 * P)) ≤ scratch_at P S
+  columns_end p e = omega (arith, row_le (2 * (3 * P * (3 * P))) p)
+
+  pub factors_end : {x g : ℕ} → x < 3 → g ≡ factors_at P S x → g + 2 * (P * S) ≤ constants_at P S
+  factors_end p e = omega (arith, row_le (2 * (P * S)) p)
+
   pub columns_pre : columns_at P 3 ≤ pre_at P S
   columns_pre = omega arith
-
-  pub pre_end : pre_at P S + 2 * P ≤ constants_at P S
-  pre_end = omega arith
-
-  pub constants_end : constants_at P S + 2 * (3 * P * (3 * P * (3 * P))) ≤ scratch_at P S
-  constants_end = omega arith
-
-  pub scratch_end : scratch_at P S + 2 * (3 * P * (3 * P)) + 2 * (3 * P) ≤ listing_at P S
-  scratch_end = omega arith
-
-  -- a slice that is long enough, and still is after a stage
-  pub legs_fit : {n : ℕ} → end_at P S ≤ n → pre_at P S ≤ n
-  legs_fit h = omega arith
-
-  pub pre_fits : {n : ℕ} → scratch_at P S ≤ n → pre_at P S + 2 * P ≤ n
-  pre_fits h = omega arith
-
-  pub region_fits : {m n : ℕ} → m ≡ n → scratch_at P S ≤ n → region_end (constants_at P S) P ≤ m
-  region_fits e h = omega arith
-
-  pub constants_fit : {n : ℕ} → end_at P S ≤ n → scratch_at P S ≤ n
-  constants_fit h = omega arith
-
-  pub scratch_fits : {m n : ℕ} → m ≡ n → end_at P S ≤ n → listing_at P S ≤ m
-  scratch_fits e h = omega arith
-
-  pub listing_fits : {m n : ℕ} → m ≡ n → end_at P S ≤ n → end_at P S ≤ m
-  listing_fits e h = omega arith
 
   -- the legs, and then what lies behind them
   pub outside_legs : {l l₁ l₂ : List Float} → SameOutside l l₁ 0 (pre_at P S) → SameOutside l₁ l₂ (pre_at P S) (end_at P S) → SameOutside l l₂ 0 (end_at P S)

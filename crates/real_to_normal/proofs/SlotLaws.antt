@@ -1,5 +1,5 @@
 -- The phonons of a slot, as the work buffer holds them before and after the force constants were written behind them.
-use mathlib.Core.Path.{◌≡◌, refl, sym, ap, ◌∙◌, subst}
+use mathlib.Core.Path.{◌≡◌, refl, ap, ◌∙◌}
 use mathlib.Core.Bool.{true, cond}
 use mathlib.Core.List.{List, [], ◌∷◌}
 use Prim.Native.Nat.{ℕ, zero, suc, ◌+◌, ◌-◌, ◌*◌, ◌/◌, ◌%◌, ◌<◌, ◌≤◌}
@@ -22,18 +22,8 @@ use Rattle.planes.proofs.Products.{row_le}
 use Rattle.reciprocal_to_normal.specs.Slots.{b_of, j_of, k_of}
 use Rattle.reciprocal_to_normal.specs.Listing.{WroteAbove, source_place}
 use Rattle.reciprocal_to_normal.proofs.SlotLaws.{b_of_lem, j_of_lem, k_of_lem, j_lt, k_lt, b_lt}
-use Rattle.real_to_normal.specs.Work.{columns_at, places, Frequencies, Order, picked, leg_in, bands_of_slot, slot_in}
+use Rattle.real_to_normal.specs.Work.{columns_at, places, Order, picked, leg_in, bands_of_slot, slot_in}
 use Rattle.real_to_normal.proofs.OrderLaws.{placed}
-
--- the frequencies of legs that were picked are within the slice
-pub picked_fit : {B : ℕ} {frequencies : List Float} {g e : Legs ℕ} (x0 x1 x2 : ℕ) → e ≡ picked g x0 x1 x2 → Frequencies B frequencies g → Frequencies B frequencies e
-picked_fit {B} {frequencies} {g} x0 x1 x2 e f =
-    rw e (record { leg0 = fits x0; leg1 = fits x1; leg2 = fits x2 })
-  where
-    fits : (x : ℕ) → (leg g x + 1) * B ≤ length frequencies
-    fits zero = f.leg0
-    fits (suc zero) = f.leg1
-    fits (suc (suc x)) = f.leg2
 
 -- one of three, from a list and by legs
 pick_list : (x y z o : ℕ) → o < 3 → get_or (x ∷ y ∷ z ∷ []) o 0 ≡ leg (record { leg0 = x; leg1 = y; leg2 = z }) o

@@ -14,6 +14,7 @@ use real_to_reciprocal::phases::phase_factors;
 use reciprocal_to_normal::scale::{inverse_roots, scale_eigenvectors};
 
 // The eigenvectors at the legs' grid points g, scaled by the inverse roots at the start of w.
+#[tactic(auto, using(crate::proofs::LegLaws::legs_scaled, crate::proofs::LegLaws::legs_outside))]
 fn scale_legs(w: &mut [f64], eigenvectors: &[f64], np: usize, g: Legs<usize>)
     requires { (np ≤ 1000) × (columns_at np 3 ≤ length w.old) × Eigenvectors (3 * np) eigenvectors.now g }
     ensures { ((x n : ℕ) → x < 3 → n < 3 * np
@@ -30,6 +31,7 @@ fn scale_legs(w: &mut [f64], eigenvectors: &[f64], np: usize, g: Legs<usize>)
 }
 
 // The phase factors of the three legs' q.
+#[tactic(auto, using(crate::proofs::LegLaws::legs_factored, crate::proofs::LegLaws::factored_outside))]
 fn factor_legs(w: &mut [f64], q: &Legs<[f64; 3]>, crystal: &Crystal<'_>, np: usize, ns: usize)
     requires { (np ≤ 1000)
         × (ns ≤ 1000)

@@ -69,5 +69,14 @@ pub fn order_constants(w: &mut [f64], tables: &Tables<'_>, q: &Legs<[f64; 3]>, o
     let f = picked(&places(f0, n), order);
     let p = picked(q, order);
     pre_phase_factors(w, po, &p, &tables.crystal, np);
-    real_to_reciprocal(w, fo, po, f, tables.settings.anchoring, &tables.crystal.forces, np, ns);
+    real_to_reciprocal(
+        w,
+        fo,
+        po,
+        f,
+        tables.settings.anchoring,
+        &tables.crystal.forces,
+        np,
+        ns,
+    );
 }

@@ -40,6 +40,15 @@ pub fn real_to_normal(
     let f = frequencies_of(tables.phonons.frequencies, g, nb);
     order_constants(w, tables, q, [0, 1, 2]);
     reciprocal_to_normal_squared(
-        out, flags, w, fo, e, so, f, tables.bands, np, tables.settings.cutoff,
+        out,
+        flags,
+        w,
+        fo,
+        e,
+        so,
+        f,
+        tables.bands,
+        np,
+        tables.settings.cutoff,
     );
 }

@@ -1,15 +1,7 @@
 -- The legs picked in this order hand their factors and pre-factors to the blocks.
 use Rattle.phonon.specs.Handed.{tables_of}
-use Rattle.real_to_normal.proofs.PlaceLaws.{region_fits}
-use Rattle.real_to_normal.proofs.OrderLaws.{factors_below, order_is, order_outside}
+use Rattle.real_to_normal.proofs.OrderLaws.{order_is, order_outside}
 use Rattle.real_to_normal.proofs.order.order_constants.Goals as goal
-
-pub real_to_reciprocal-requires : goal.real_to_reciprocal-requires
-real_to_reciprocal-requires c =
-    let p = c.requires.sizes in
-    let t = tables_of c.args.tables.now in
-    let m = t.measures in
-    (p.0.atoms, p.0.supercell, p.0.shaped, factors_below t c.args.order p.1 c.places.ensures c.picked-f.ensures, region_fits m.atoms m.supercell c.pre_phase_factors.ensures.size p.2)
 
 pub returns : goal.returns
 returns c =

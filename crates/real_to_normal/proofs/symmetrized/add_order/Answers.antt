@@ -2,28 +2,9 @@
 use Rattle.phonon.specs.Handed.{tables_of}
 use Rattle.reciprocal_to_normal.proofs.ListingLaws.{outside_above}
 use Rattle.real_to_normal.specs.Work.{constants_at, scratch_at, listing_at}
-use Rattle.real_to_normal.proofs.PlaceLaws.{columns_pre, constants_end, scratch_end, listing_fits, outside_listing}
-use Rattle.real_to_normal.proofs.OrderLaws.{columns_end}
-use Rattle.real_to_normal.proofs.SlotLaws.{picked_fit, order_gathered}
+use Rattle.real_to_normal.proofs.PlaceLaws.{columns_pre, outside_listing}
+use Rattle.real_to_normal.proofs.SlotLaws.{order_gathered}
 use Rattle.real_to_normal.proofs.symmetrized.add_order.Goals as goal
-
-pub frequencies_of-f-requires : goal.frequencies_of-f-requires
-frequencies_of-f-requires c =
-    picked_fit _ _ _ c.picked.ensures c.requires.points
-
-pub full_strengths-requires-clause-layout : goal.full_strengths-requires-clause-layout
-full_strengths-requires-clause-layout c =
-    let t = tables_of c.args.tables.now in
-    let m = t.measures in
-    let p = c.requires in
-    let e = columns_end t c.args.order p.legs c.places.ensures c.picked-e.ensures in (
-      constants_end m.atoms m.supercell,
-      e.0,
-      e.1,
-      e.2,
-      scratch_end m.atoms m.supercell,
-      listing_fits m.atoms m.supercell c.order_constants.ensures.1.size p.sizes.2,
-    )
 
 pub returns : goal.returns
 returns c =

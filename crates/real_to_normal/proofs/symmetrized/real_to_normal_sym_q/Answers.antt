@@ -1,10 +1,9 @@
 -- After o turns each slot that is not flagged holds the first o sixths, summed in turn.
-use mathlib.Core.Path.{◌≡◌, sym, ap, ◌∙◌, subst}
+use mathlib.Core.Path.{sym, ◌∙◌, subst}
 use Prim.Native.Nat.{◌*◌, ◌<◌}
 use native.Mathlib.Omega.{arith}
-use lib.ListN.{length, get_or}
+use lib.ListN.{get_or}
 use Rattle.phonon.specs.Handed.{tables_of}
-use Rattle.phonon.proofs.Laws.{table_length}
 use Rattle.planes.proofs.RegionLaws.{outside_none, outside_then}
 use Rattle.planes.proofs.WorkLaws.{numbers_below}
 use Rattle.planes.proofs.Products.{row_le}
@@ -25,11 +24,6 @@ pub add_order-requires-clause-factors : goal.add_order-requires-clause-factors
 add_order-requires-clause-factors c =
     let m = c.args.tables.now.measures in
     record { factors = λ x h. numbers_below c.loop-o.invariant.2 _ _ _ (omega (arith, row_le (2 * (m.atoms * m.supercell)) h)) ∙ c.requires.factors.factors x h }
-
-pub add_order-requires-clause-slots : goal.add_order-requires-clause-slots
-add_order-requires-clause-slots c =
-    let p = c.requires.slots in
-    record { strengths = ap length c.loop-o.invariant.1 ∙ table_length _ _; flags = p.flags; bands = p.bands }
 
 pub add_order-requires-clause-legs : goal.add_order-requires-clause-legs
 add_order-requires-clause-legs c =
