@@ -9,7 +9,8 @@ use checks::sizes::sizes_of;
 use phonon::{Anchoring, Form, Measures, Refusal, Symmetry};
 use planes::work_length;
 
-// Where each table starts, the addresses at word 25, and where the last one ends.
+// Where each table starts, the addresses at word 25, and where the last one ends. A table ends where the next starts, so that a range for each
+// would say every place twice.
 #[derive(Clone, Copy)]
 pub struct Places {
     pub vectors: usize,
