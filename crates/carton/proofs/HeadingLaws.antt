@@ -1,6 +1,6 @@
 -- What the code's tests of a heading tell of the definition's.
-use Prim.Native.Nat.{ℕ, ◌+◌, ◌-◌, ◌≤◌}
-use mathlib.Core.Bool.{Bool, true, false, ◌&&◌, and-false}
+use Prim.Native.Nat.{ℕ, ◌+◌, ◌-◌, ◌/◌, ◌%◌, ◌≤◌}
+use mathlib.Core.Bool.{Bool, true, false, cond, ◌&&◌, and-false}
 use mathlib.Core.List.{List}
 use mathlib.Core.Path.{◌≡◌, refl, sym, ◌∙◌, ap}
 use native.Mathlib.Omega.{arith}
@@ -11,6 +11,9 @@ use lib.Seq.{take_all}
 use Rattle.checks.proofs.Laws.{and_left, and_right}
 use Rattle.phonon.specs.declared.Measures.{Measures}
 use Rattle.phonon.specs.declared.Anchoring.{Anchoring}
+use Rattle.phonon.specs.declared.Anchoring.TheVariants.{Plain, Averaged}
+use Rattle.phonon.specs.declared.Symmetry.TheVariants.{Off, Symmetrized}
+use Rattle.phonon.specs.declared.Form.TheVariants.{Compact, Full}
 use Rattle.phonon.specs.declared.Symmetry.{Symmetry}
 use Rattle.phonon.specs.declared.Form.{Form}
 use Rattle.phonon.specs.Sets.{slots}
@@ -29,6 +32,22 @@ use Rattle.carton.proofs.MeasureLaws.{placed, measures_before, not_small, natura
 -- the rest of a list, as the code lends it
 pub rest : (l : List ℕ) (n : ℕ) → take (length l - n) (drop n l) ≡ drop n l
 rest l n = take_all (length l - n) (drop n l) (omega (arith, length-drop n l))
+
+-- ---- the flag bits
+
+pub compact_bit : (b : ℕ) → cond (eqb (b / 1 % 2) 1) Compact Full ≡ form_of b
+unfolding form_of
+compact_bit b =
+    let e : b / 1 ≡ b = omega arith in
+    rw e refl
+
+pub averaged_bit : (b : ℕ) → cond (eqb (b / 2 % 2) 1) Averaged Plain ≡ anchoring_of b
+unfolding anchoring_of
+averaged_bit b = refl
+
+pub symmetrized_bit : (b : ℕ) → cond (eqb (b / 4 % 2) 1) Symmetrized Off ≡ symmetry_of b
+unfolding symmetry_of
+symmetrized_bit b = refl
 
 -- ---- the tests a and b, s of small measures, n of natural ones, t of the words
 

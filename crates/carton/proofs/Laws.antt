@@ -1,7 +1,9 @@
 -- Two's complement, and tests of a whole list.
-use Rattle.std.proofs.Common.{ℕ, zero, suc, ◌+◌, ◌≤◌, ◌<◌, ◌≡◌, ◌∙◌, refl, ap, sym, arith, add-one, zero-add, Bool, ◌&&◌, List, length, get_or, take, negsuc}
+use Rattle.std.proofs.Common.{ℕ, zero, suc, ◌+◌, ◌≤◌, ◌<◌, ◌≡◌, ◌∙◌, refl, ap, sym, arith, add-one, zero-add, Bool, ◌&&◌, List, length, get_or, take, negsuc, ◌-◌}
 use native.Mathlib.Decide.{dec_lt}
-use mir.Val.{to_z}
+use mir.Val.{to_z, of_z, SFits}
+use mir.ValLaws.{to_z-of_z}
+use lib.IntN.{pos, ◌-ℤ◌}
 use mir.Syntax.{w64}
 use borrow.Author.Tests.{lt-ltb, le-ltb}
 use lib.Seq.{take_all}
@@ -11,13 +13,34 @@ use Rattle.std.proofs.lemmas.List.FromFn.{length-range_with_len, get_or-range_wi
 use Rattle.phonon.specs.Tests.{every_below}
 use Rattle.carton.specs.Words.{int_of}
 
-pub int_is : (w : ℕ) → to_z w64 w ≡ int_of w
+pub word_is : (w : ℕ) → to_z w64 w ≡ int_of w
 unfolding int_of
-int_is w = go (dec_lt w 9223372036854775808)
+word_is w = go (dec_lt w 9223372036854775808)
   where
     go : Dec (w < 9223372036854775808) → to_z w64 w ≡ int_of w
     go (yes h) = rw (lt-ltb w 9223372036854775808 h) refl
     go (no h) = rw (le-ltb w 9223372036854775808 (omega arith)) (ap negsuc (omega arith))
+
+-- ---- the same of a negative integer, worked out from its word
+
+to_small : (n : ℕ) → n < 9223372036854775808 → to_z w64 n ≡ pos n
+to_small n h = rw (lt-ltb n 9223372036854775808 h) refl
+
+minus_one_less : (n : ℕ) → negsuc 0 -ℤ pos n ≡ negsuc n
+minus_one_less zero = refl
+minus_one_less (suc n) = ap negsuc (omega arith)
+
+-- a word of a negative integer
+module _ (w : ℕ) (h : 9223372036854775808 ≤ w) (k : w < 18446744073709551616) where
+  int_below : negsuc 0 -ℤ to_z w64 (18446744073709551615 - w) ≡ negsuc (18446744073709551615 - w)
+  int_below = rw (to_small (18446744073709551615 - w) (omega arith)) (minus_one_less (18446744073709551615 - w))
+
+  pub int_fits : SFits w64 (negsuc 0 -ℤ to_z w64 (18446744073709551615 - w))
+  int_fits = rw int_below (record { sfits = omega arith })
+
+  pub int_is : to_z w64 (of_z w64 (negsuc 0 -ℤ to_z w64 (18446744073709551615 - w))) ≡ int_of w
+  unfolding int_of
+  int_is = to_z-of_z w64 _ int_fits ∙ int_below ∙ rw (le-ltb w 9223372036854775808 h) refl
 
 -- ---- a test of each entry
 

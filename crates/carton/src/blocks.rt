@@ -3,6 +3,7 @@ ghost use Rattle.std.specs.Prelude.{◌≡◌, ◌+◌, ◌*◌, ◌≤◌, ◌<
 ghost use Rattle.carton.specs.Blocks.{four_at, eight_at, size_ok, check_of, block_ok, blocks_ok};
 
 // The little-endian number of four bytes from byte i on.
+#[tactic(auto, unfolding(crate::specs::Blocks::four_at))]
 fn four_at(s: &[u8], i: usize) -> u32
     requires { i + 4 ≤ length s.now }
     ensures { result ≡ four_at s.now i }
@@ -28,6 +29,7 @@ pub fn eight_at(s: &[u8], i: usize) -> u64
 }
 
 // Number 10. 49,152 bytes are 96 blocks.
+#[tactic(auto, unfolding(crate::specs::Blocks::size_ok))]
 pub fn size_ok(s: &[u8]) -> bool
     ensures { result ≡ size_ok s.now }
 {
@@ -48,6 +50,7 @@ fn check_of(s: &[u8], i: usize) -> u64
 }
 
 // The number and the check of block b.
+#[tactic(auto, unfolding(crate::specs::Blocks::block_ok))]
 fn block_ok(s: &[u8], b: usize) -> bool
     requires { 512 * b + 512 ≤ length s.now }
     ensures { result ≡ block_ok s.now b }

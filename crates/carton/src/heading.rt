@@ -1,6 +1,6 @@
 // The heading of a carton: measures, choices, the places of the tables, and refusal 12.
-ghost use Rattle.std.specs.Prelude.{◌≡◌, true, ◌≤◌, length};
-ghost use Rattle.carton.specs.Heading.{form_of, anchoring_of, symmetry_of, places_of, words_match, read_of};
+ghost use Rattle.std.specs.Prelude.{◌≡◌, true, ◌/◌, ◌%◌, ◌≤◌, ◌<◌, ◌==◌, if◌then◌else◌, length};
+ghost use Rattle.carton.specs.Heading.{places_of, words_match, read_of};
 ghost use Rattle.carton.specs.Most.{most_words};
 ghost use Rattle.carton.specs.Small.{small_ok};
 
@@ -9,7 +9,8 @@ use checks::sizes::sizes_of;
 use phonon::{Anchoring, Form, Measures, Refusal, Symmetry};
 use planes::work_length;
 
-// Where each table starts, the addresses at word 25, and where the last one ends.
+// Where each table starts, the addresses at word 25, and where the last one ends. A table ends where the next starts, so that a range for each
+// would say every place twice.
 #[derive(Clone, Copy)]
 pub struct Places {
     pub vectors: usize,
@@ -41,39 +42,18 @@ pub struct Heading {
 
 // ---- the flag bits
 
-fn form_of(b: u64) -> Form
-    ensures { result ≡ form_of b }
+// What the bit of this worth says.
+fn choice<T: Copy>(bits: u64, worth: u64, set: T, off: T) -> T
+    requires { 0 < worth }
+    ensures { result ≡ (if bits / worth % 2 == 1 then set else off) }
 {
-    if b % 2 == 1 {
-        Form::Compact
-    } else {
-        Form::Full
-    }
-}
-
-fn anchoring_of(b: u64) -> Anchoring
-    ensures { result ≡ anchoring_of b }
-{
-    if b / 2 % 2 == 1 {
-        Anchoring::Averaged
-    } else {
-        Anchoring::Plain
-    }
-}
-
-fn symmetry_of(b: u64) -> Symmetry
-    ensures { result ≡ symmetry_of b }
-{
-    if b / 4 % 2 == 1 {
-        Symmetry::Symmetrized
-    } else {
-        Symmetry::Off
-    }
+    if bits / worth % 2 == 1 { set } else { off }
 }
 
 // ---- the places
 
 // A larger measure has a table longer than the 6,048 words of 96 blocks.
+#[tactic(auto, unfolding(crate::specs::Small::small_ok))]
 fn is_small(m: Measures) -> bool
     ensures { result ≡ small_ok m }
 {
@@ -163,7 +143,7 @@ pub fn heading_of(words: &[u64]) -> Result<Heading, Refusal>
     if !good {
         return Err(Refusal::Heading);
     }
-    let form = form_of(bits);
+    let form = choice(bits, 1, Form::Compact, Form::Full);
     let p = places_of(m, form);
     if !words_match(words, m, form, p) {
         return Err(Refusal::Heading);
@@ -171,8 +151,8 @@ pub fn heading_of(words: &[u64]) -> Result<Heading, Refusal>
     Ok(Heading {
         measures: m,
         form,
-        anchoring: anchoring_of(bits),
-        symmetry: symmetry_of(bits),
+        anchoring: choice(bits, 2, Anchoring::Averaged, Anchoring::Plain),
+        symmetry: choice(bits, 4, Symmetry::Symmetrized, Symmetry::Off),
         places: p,
     })
 }

@@ -7,6 +7,7 @@ use crate::blocks::eight_at;
 use common::bits::f64_of_bits;
 
 // Word w: 63 to a block.
+#[tactic(auto, unfolding(crate::specs::Words::word_at))]
 fn word_at(s: &[u8], w: usize) -> u64
     requires { w < 63 * (length s.now / 512) }
     ensures { result ≡ word_at s.now w }
@@ -54,6 +55,7 @@ impl FromWord for i64 {
 impl FromWord for u8 {
     ghost of = { byte_of };
 
+    #[tactic(auto, unfolding(crate::specs::Words::byte_of))]
     fn from_word(w: u64) -> u8 {
         (w % 256) as u8
     }

@@ -1,4 +1,4 @@
-// Words and numbers.
+// Words and numbers. Digits come from io: `write!` answers a Result, and no contract says that it cannot fail where there is room.
 ghost use Rattle.std.specs.Prelude.{◌≡◌, ◌+◌, ◌≤◌, ◌++◌, length};
 ghost use Rattle.arrayvec.specs.ArrayVec.{array_vec_len};
 ghost use Rattle.text.specs.Lines.{number_then, bits_line};

@@ -7,6 +7,7 @@ use Rattle.text.proofs.lines.put_refused.Goals as goal
 pub put_number-requires : goal.put_number-requires
 unfolding refused_line
 put_number-requires g c =
-    let n : c.from.result ≡ c.args.n = c.from.ensures in
-    (search rules,
-    rw n (omega (arith, c.requires, simp length-append at (ap {A = List ℕ} {B = ℕ} length c.put.ensures), simp length-append at (refused_length c.args.n (omega (arith, c.ranges.n.fits))))))
+    let n : c.from.result ≡ c.args.n = c.from.ensures in (
+      search rules,
+      rw n (omega (arith, c.requires, simp length-append at (ap {A = List ℕ} {B = ℕ} length c.put.ensures), simp length-append at (refused_length c.args.n (omega (arith, c.ranges.n.fits))))),
+    )
