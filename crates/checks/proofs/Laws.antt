@@ -7,8 +7,7 @@ use native.Mathlib.Nat.{zero-mul, sub-zero, add-zero}
 use native.Mathlib.Numerals.{add-one}
 use native.Mathlib.Omega.{arith}
 use lib.Ieee.{Float, nan, inf, fin, binary64, add, lt, eq, div, up, down}
-use lib.ListN.{length, get_or, drop}
-use Rattle.std.proofs.lemmas.List.{get_or-drop, length-drop}
+use lib.ListN.{length, get_or}
 use Rattle.std.specs.List.{list_all, range_with_len}
 use Rattle.phonon.specs.Number.{◌⊕◌, at}
 use lib.Ieee.Fits.{up_pos}
@@ -125,39 +124,20 @@ passed_many {p} {n} {i} (suc m) w h e =
     let z : i + m + 1 ≡ i + suc m = omega arith in
     passed_same z (passed_more before (omega arith) (and_right (every_below (λ t. p (i + t)) m) (p (i + m)) e))
 
--- the first of the n numbers from k on is the end exactly where none of them fails
-first_end : (p : ℕ → Bool) (n k : ℕ) → eqb (first_from p n k) (n + k) ≡ every_below (λ t. p (k + t)) n
-unfolding first_from every_below
-first_end p zero k = let e : 0 + k ≡ k = omega arith in rw e (eq-eqb k k refl)
-first_end p (suc n) k = rw (every_front (λ t. p (k + t)) n, add-zero) (by (p k) (first_end p n (suc k)))
+-- the first of the n numbers from k on is the end exactly where none of them fails, given that none below k does
+first_end : (p : ℕ → Bool) (n k : ℕ) → every_below p k ≡ true → eqb (first_from p n k) (n + k) ≡ every_below p (n + k)
+unfolding first_from
+first_end p zero k h = let e : 0 + k ≡ k = omega arith in rw e (rw h (eq-eqb k k refl))
+first_end p (suc n) k h = by (p k) refl (λ e. first_end p n (suc k) (every_more p k h e))
   where
-    same : every_below (λ t. p (suc k + t)) n ≡ every_below (λ t. p (k + suc t)) n
-    same = every_same (λ t. p (suc k + t)) (λ t. p (k + suc t)) (λ t. let e : suc k + t ≡ k + suc t = omega arith in rw e refl) n
-
-    by : (b : Bool) → eqb (first_from p n (suc k)) (n + suc k) ≡ every_below (λ t. p (suc k + t)) n
-        → eqb (cond b (first_from p n (suc k)) k) (suc n + k) ≡ b && every_below (λ t. p (k + suc t)) n
-    by true e = let m : suc n + k ≡ n + suc k = omega arith in rw m (e ∙ same)
-    by false e = ne_eqb k (suc n + k) (λ (z : k ≡ suc n + k). omega arith)
+    by : (b : Bool) → p k ≡ b → (p k ≡ true → eqb (first_from p n (suc k)) (n + suc k) ≡ every_below p (n + suc k))
+        → eqb (cond (p k) (first_from p n (suc k)) k) (suc n + k) ≡ every_below p (suc n + k)
+    by true e go = let m : suc n + k ≡ n + suc k = omega arith in rw (e, m) (go e)
+    by false e go = rw e (ne_eqb k (suc n + k) (λ (z : k ≡ suc n + k). omega arith) ∙ sym (every_bad p (suc n + k) k (omega arith) e))
 
 -- a scan that comes to the end has passed every entry
 pub first_every : (p : ℕ → Bool) (n : ℕ) → eqb (first_from p n 0) n ≡ every_below p n
-first_every p n =
-    let e : n + 0 ≡ n = omega arith in
-    rw e at (first_end p n 0) ∙ every_same (λ t. p (0 + t)) p (λ t. let z : 0 + t ≡ t = omega arith in rw z refl) n
-
--- the entries that are left tell of all
-pub rest_every : {p : ℕ → Bool} {n i : ℕ} → Passed p n i → every_below (λ t. p (i + t)) (n - i) ≡ every_below p n
-rest_every {p} {n} {i} w =
-    let e : n - i + i ≡ n = omega (arith, w.inside) in
-    sym (first_end p (n - i) i) ∙ rw (e, w.first) (first_every p n)
-
--- `all` over the entries that are left
-pub all_left : {A : Type 0} (p : A → Bool) (d : A) (xs : List A) {i : ℕ} → Passed (λ k. p (get_or xs k d)) (length xs) i
-    → list_all p (drop i xs) ≡ every_below (λ k. p (get_or xs k d)) (length xs)
-all_left p d xs {i} w =
-    all_items p d (drop i xs)
-    ∙ rw length-drop (every_same (λ k. p (get_or (drop i xs) k d)) (λ k. p (get_or xs (i + k) d)) (λ k. rw get_or-drop refl) (length xs - i))
-    ∙ rest_every w
+first_every p n = let e : n + 0 ≡ n = omega arith in rw e at (first_end p n 0 (every_none p))
 
 -- ---- floats
 

@@ -49,7 +49,7 @@ pub fn is_measured(low: usize, high: usize, n: usize) -> bool
     (low <= n) & (n <= high)
 }
 
-// ---- scans of a table
+// ---- scans: the place of the first entry that fails the test, or the length where none does
 
 // Eight entries at a time, without a branch between them: twice as fast as one by one.
 fn eight_finite(s: &[f64], i: usize) -> bool
@@ -139,23 +139,67 @@ fn passed_eights(s: &[f64]) -> usize
     i
 }
 
+pub fn first_not_finite(s: &[f64]) -> usize
+    ensures { result ≡ first_from (λ k. finite (at s.now k)) (length s.now) 0 }
+{
+    let mut i = passed_eights(s);
+    while i < s.len() {
+        let x = s[i];
+        if is_finite(x) {
+            i += 1;
+        } else {
+            return i;
+        }
+    }
+    i
+}
+
+pub fn first_outside(low: i64, high: i64, s: &[i64]) -> usize
+    ensures { result ≡ first_from (λ k. within low high (int s.now k)) (length s.now) 0 }
+{
+    let mut i = 0;
+    while i < s.len() {
+        let x = s[i];
+        if is_within(low, high, x) {
+            i += 1;
+        } else {
+            return i;
+        }
+    }
+    i
+}
+
+pub fn first_not_positive(s: &[f64]) -> usize
+    ensures { result ≡ first_from (λ k. lt f0 (at s.now k)) (length s.now) 0 }
+{
+    let mut i = 0;
+    while i < s.len() {
+        let x = s[i];
+        if 0.0 < x {
+            i += 1;
+        } else {
+            return i;
+        }
+    }
+    i
+}
+
 pub fn all_finite(s: &[f64]) -> bool
     ensures { result ≡ all_finite s.now }
 {
-    let i = passed_eights(s);
-    s[i..].iter().all(|x| is_finite(*x))
+    first_not_finite(s) == s.len()
 }
 
 pub fn all_within(low: i64, high: i64, s: &[i64]) -> bool
     ensures { result ≡ all_within low high s.now }
 {
-    s.iter().all(|x| is_within(low, high, *x))
+    first_outside(low, high, s) == s.len()
 }
 
 pub fn all_positive(s: &[f64]) -> bool
     ensures { result ≡ masses_ok s.now }
 {
-    s.iter().all(|x| 0.0 < *x)
+    first_not_positive(s) == s.len()
 }
 
 // ---- the multiplicity table: row j is a supercell atom, column i an atom of the primitive cell, and entry
@@ -179,9 +223,30 @@ fn vector_range(vectors: usize, count: i64, start: i64) -> bool
     first <= vectors - n
 }
 
+// The number of the first entry whose range lies outside the vectors, or rows * columns where none does.
+pub fn first_bad_range(table: &[i64], rows: usize, columns: usize, vectors: usize) -> usize
+    requires { length table.now ≡ 2 * (rows * columns) }
+    ensures { result ≡ first_from
+        (λ n. vector_range vectors (int table.now (2 * n)) (int table.now (2 * n + 1))) (rows * columns) 0 }
+{
+    let mut found = rows * columns;
+    'rows: for j in 0..rows {
+        for i in 0..columns {
+            let n = j * columns + i;
+            let count = table[2 * n];
+            let start = table[2 * n + 1];
+            if !vector_range(vectors, count, start) {
+                found = n;
+                break 'rows;
+            }
+        }
+    }
+    found
+}
+
 pub fn all_ranges(table: &[i64], rows: usize, columns: usize, vectors: usize) -> bool
     requires { length table.now ≡ 2 * (rows * columns) }
     ensures { result ≡ ranges_ok vectors (rows * columns) table.now }
 {
-    (0..rows * columns).all(|n| vector_range(vectors, table[2 * n], table[2 * n + 1]))
+    first_bad_range(table, rows, columns, vectors) == rows * columns
 }

@@ -1,16 +1,14 @@
--- Each entry is tested.
-use mathlib.Core.Path.{◌≡◌, refl, ◌∙◌}
-use Rattle.std.proofs.Common.{rules}
-use Rattle.std.proofs.lemmas.Iterator.{YieldsList-from_slice}
-use Rattle.std.proofs.lemmas.Iterator.Search.{all_from_yields_List}
-use lib.IntN.{pos}
+-- The scan comes to the end exactly where every entry passes.
+use mir.ValLaws.{to_z-of_z}
+use mir.Syntax.{w64}
+use Rattle.phonon.specs.Number.{int}
 use Rattle.phonon.specs.Tests.{within, all_within}
-use Rattle.checks.proofs.Laws.{all_items}
+use Rattle.checks.proofs.Laws.{first_every}
 use Rattle.checks.proofs.all_within.Goals as goal
 
 pub returns : goal.returns
 unfolding all_within
 returns c =
-    let p = within c.args.low c.args.high in
-    all_from_yields_List p _ _ _ c.all.ensures.ran (YieldsList-from_slice c.args.s.now cc) (λ x b q k. search rules)
-    ∙ all_items p (pos 0) c.args.s.now
+    let low = to_z-of_z w64 _ c.ranges.low in
+    let high = to_z-of_z w64 _ c.ranges.high in
+    rw (simp (low, high) at c.first_outside.ensures) (first_every (λ k. within c.args.low c.args.high (int c.args.s.now k)) _)
