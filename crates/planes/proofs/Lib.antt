@@ -6,6 +6,7 @@ pub mod LayoutLaws
 pub mod Products
 pub mod ColsLaws
 pub mod SignedRead
+pub mod ReadLaws
 pub mod WorkLaws
 pub mod LegOrders
 pub mod ClearLaws
