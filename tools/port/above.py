@@ -18,7 +18,7 @@ def main(argv):
         line = line.split("#")[0].strip()
         if line:
             name, uses = line.split(":")
-            deps[name.strip()] = uses.split()
+            deps[name.split()[0]] = uses.split()
 
     def below(name):
         out = []
