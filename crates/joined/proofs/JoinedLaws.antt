@@ -37,7 +37,7 @@ lengths s e =
     record { first = eqb-true _ _ h.0; second = eqb-true _ _ h.1.0; totals = eqb-true _ _ h.1.1.0 }
 
 module _ (s : JoinedSet) (e : joined_refusal s ≡ 0) where
-  abbrev share : triplet_refusal (triplet_of s) ≡ 0
+  pub share : triplet_refusal (triplet_of s) ≡ 0
   share = joined_share s e
 
   pub few : s.tables.measures.atoms ≤ 8

@@ -13,7 +13,7 @@ use real_to_normal::triplet::work_triplet;
 use refusals::joined_set::check_joined;
 
 // Document 01's fourth door.
-#[tactic(auto, using(crate::proofs::JoinedLaws::refused))]
+#[tactic(auto, using(crate::proofs::JoinedLaws::few, crate::proofs::JoinedLaws::refused, crate::proofs::JoinedLaws::accepted))]
 pub fn joined_at_triplet(
     tables: &Tables<'_>,
     triplet: [i64; 3],
