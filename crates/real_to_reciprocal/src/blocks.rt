@@ -96,7 +96,9 @@ pub fn store_block(w: &mut [f64], fo: usize, np: usize, atoms: Legs<usize>, t: &
     }
 }
 
-// Writes to t the sums of one leg for three atoms, times the pre-factor of the first.
+// Writes to t the sums of one leg for three atoms, times the pre-factor of the first. Laid into its callers, so that each
+// leg has its own loop.
+#[inline(always)]
 fn leg_block(
     t: &mut [f64; 54],
     w: &[f64],

@@ -26,6 +26,7 @@ fn row_of(form: Form, p2s: &[i64], i: usize) -> usize
 }
 
 // Whether a leg passes the pair of entry n: legs 2 and 3 pass all-shortest pairs.
+#[inline(always)]
 fn passes(leg: Leg, shortest: &[u8], n: usize) -> bool
     requires { n < length shortest.now }
     ensures { result ≡ Def.passes leg (flagged shortest.now n) }
@@ -37,6 +38,7 @@ fn passes(leg: Leg, shortest: &[u8], n: usize) -> bool
 }
 
 // What a leg multiplies the pair of entry n by: leg 1 takes all-shortest pairs times 3.0.
+#[inline(always)]
 fn factor(leg: Leg, shortest: &[u8], n: usize) -> f64
     requires { n < length shortest.now }
     ensures { result ≡ Def.factor leg (flagged shortest.now n) }
@@ -85,6 +87,7 @@ fn add_two(t: &mut [f64; 54], constants: &[f64], one: Block, two: Block)
 }
 
 // Adds the block that waits, if one does.
+#[inline(always)]
 fn add_held(t: &mut [f64; 54], constants: &[f64], held: Option<Block>)
     requires { HeldIn constants.now held }
     ensures { WroteSplit t.old t.new 0 27 27
@@ -97,6 +100,7 @@ fn add_held(t: &mut [f64; 54], constants: &[f64], held: Option<Block>)
 
 // Whether blocks are added two by two; the sums are the same either way. For a leg alone two at once took up to 5 % longer
 // than one.
+#[inline(always)]
 fn two_by_two(leg: Leg) -> bool {
     match leg {
         Leg::Alone => false,
@@ -106,6 +110,7 @@ fn two_by_two(leg: Leg) -> bool {
 
 // Takes one more block: adds it together with the one that waits; if none does, has it wait or adds it by itself. What
 // is handed back is made anew: with `held` at the last line the averaged anchoring took a tenth longer.
+#[inline(always)]
 fn take_block(
     t: &mut [f64; 54],
     constants: &[f64],
@@ -144,6 +149,7 @@ struct Pairs<'a> {
 }
 
 // The turn of the pair (j, k) of supercell atoms. `held` is the block that waits, as is the result.
+#[inline(always)]
 fn add_pair(
     t: &mut [f64; 54],
     pairs: &Pairs<'_>,
@@ -191,6 +197,7 @@ fn add_pair(
 
 // The 27 sums for three atoms, real parts first. Phase factors are np * ns numbers in planes of w: those of the second
 // atom's leg from f1 on, those of the third's from f2 on.
+#[inline(always)]
 pub fn real_to_reciprocal_elements(
     w: &[f64],
     f1: usize,

@@ -1,6 +1,6 @@
 // q vectors, and the phase factors and pre-factors that they give.
 ghost use Rattle.std.specs.Prelude.{◌≡◌, ◌+◌, ◌*◌, ◌<◌, ◌≤◌, pos, length};
-ghost use Rattle.phonon.specs.Number.{float, index, int};
+ghost use Rattle.phonon.specs.Number.{◌⊕◌, ◌⊗◌, float, index, int};
 ghost use Rattle.phonon.specs.Common.{cadd};
 ghost use Rattle.phonon.specs.Handed.{grid_of};
 ghost use Rattle.phonon.specs.Interaction.{leg};
@@ -26,27 +26,29 @@ fn address_over(grid: &Grid<'_>, g: usize, c: usize) -> f64
     float_of(grid.addresses[3 * g + c]) / float_of(grid.mesh[c])
 }
 
-// Component k of the q of grid point g: a row of the q matrix times the address over the mesh.
-#[tactic(auto, unfolding(phonon::specs::RealToReciprocal::q_entry))]
-fn q_entry(grid: &Grid<'_>, g: usize, k: usize) -> f64
-    requires { (k < 3) × (3 * g + 3 ≤ length grid.now.addresses.now) }
-    ensures { result ≡ Def.q_entry (grid_of grid.now) g k }
+// Component k of a q: a row of the q matrix times x, y, z.
+fn q_entry(grid: &Grid<'_>, k: usize, x: f64, y: f64, z: f64) -> f64
+    requires { k < 3 }
+    ensures { result ≡ float (int grid.now.matrix (3 * k)) ⊗ x ⊕ float (int grid.now.matrix (3 * k + 1)) ⊗ y ⊕ float (int grid.now.matrix (3 * k + 2)) ⊗ z }
 {
-    float_of(grid.matrix[3 * k]) * address_over(grid, g, 0)
-        + float_of(grid.matrix[3 * k + 1]) * address_over(grid, g, 1)
-        + float_of(grid.matrix[3 * k + 2]) * address_over(grid, g, 2)
+    float_of(grid.matrix[3 * k]) * x
+        + float_of(grid.matrix[3 * k + 1]) * y
+        + float_of(grid.matrix[3 * k + 2]) * z
 }
 
-// The q of grid point g.
-#[tactic(auto, unfolding(phonon::specs::RealToReciprocal::q_at, phonon::specs::Number::table, phonon::specs::Number::table_from))]
+// The q of grid point g: the q matrix times the address over the mesh.
+#[tactic(auto, unfolding(phonon::specs::RealToReciprocal::q_at, phonon::specs::RealToReciprocal::q_entry, phonon::specs::Number::table, phonon::specs::Number::table_from))]
 pub fn compute_q_vec(grid: &Grid<'_>, g: usize) -> [f64; 3]
     requires { 3 * g + 3 ≤ length grid.now.addresses.now }
     ensures { result ≡ Def.q_at (grid_of grid.now) g }
 {
+    let x = address_over(grid, g, 0);
+    let y = address_over(grid, g, 1);
+    let z = address_over(grid, g, 2);
     [
-        q_entry(grid, g, 0),
-        q_entry(grid, g, 1),
-        q_entry(grid, g, 2),
+        q_entry(grid, 0, x, y, z),
+        q_entry(grid, 1, x, y, z),
+        q_entry(grid, 2, x, y, z),
     ]
 }
 

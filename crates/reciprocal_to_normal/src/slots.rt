@@ -12,6 +12,7 @@ ghost use Rattle.reciprocal_to_normal.specs.Slots.{Visited, j_of, InColumn, InPl
 
 use crate::contract::contract_fc3_e0;
 use crate::plane::{Column, Plane};
+use crate::strength::strength_of;
 use phonon::Legs;
 use planes::{get_split, index_at};
 
@@ -42,10 +43,17 @@ fn all_flagged(flags: &[u8], c: Column) -> bool
 fn mostly_flagged(flags: &[u8], c: Column) -> bool
     requires { InSlots c (length flags.now) }
 {
-    let free = |&j: &usize|
-        requires { (j < c.bands) × InSlots c (length flags.now) }
-    { !is_flagged(flags, c.slot(j)) };
-    c.bands >= 6 && (0..c.bands).filter(free).count() < c.bands.div_ceil(2)
+    if c.bands < 6 {
+        return false;
+    }
+    // By a loop: `filter` and `count` work each slot's place anew.
+    let mut count: usize = 0;
+    for j in 0..c.bands {
+        if !is_flagged(flags, c.slot(j)) {
+            count += 1;
+        }
+    }
+    2 * count < c.bands
 }
 
 // The slots of the column, from their amplitudes at ao. The strength of a flagged slot, a division, is not worked.
@@ -59,10 +67,15 @@ fn fill_column(out: &mut [f64], flags: &[u8], w: &[f64], ao: usize, p: &Plane<'_
         (λ n. strength_in p.now (split w.now ao c.bands (j_of c.bands n)) (j_of c.bands n) c.k)
         (length out.old) (InColumn c.bands c.b c.k c.bands) }
 {
+    // Read once: a store to `out` would have them read again for each slot.
+    let x = p.x;
+    let z = p.freqs2[c.k];
+    let cutoff = p.cutoff;
+    let freqs1 = p.freqs1;
     for j in 0..c.bands {
         let place = c.slot(j);
         if !is_flagged(flags, place) {
-            out[place] = p.strength(get_split(w, ao, c.bands, j), j, c.k);
+            out[place] = strength_of(cutoff, get_split(w, ao, c.bands, j), x, freqs1[j], z);
         }
     }
 }

@@ -26,7 +26,7 @@ loop-j-preserved c =
           (visited_at place (elim c.if-not-is_flagged.branch [
             | then-not-is_flagged w ↦
                 rw w.out-is (visited_put _ _ _ _ _ _ room (flag ∙ w.if-not-is_flagged.true)
-                (w.strength.ensures ∙ ap (λ y. strength_in a.p.now y j s.k) w.get_split.ensures
+                (w.strength_of.ensures ∙ ap (λ y. strength_in a.p.now y j s.k) w.get_split.ensures
                 ∙ at_slot s.bands s.b j s.k pj pk (λ i. strength_in a.p.now (split a.w.now a.ao s.bands i) i s.k) _ place))
             | else-not-is_flagged w ↦ rw w.out-is (visited_pass _ _ _ _ _ (flag ∙ w.if-not-is_flagged.false))
           ])),
