@@ -1,6 +1,8 @@
 // What a case changes in cell U, the result that document 01 names, and the buffers that the doors are lent.
 use phonon::{Anchoring, Refusal, Symmetry};
 
+// That F is at most 3 is no ghost field: with one the arms of the table join before their promise, which is then no longer
+// told case by case.
 #[derive(Clone, Copy)]
 pub struct Case {
     pub cutoff: f64,

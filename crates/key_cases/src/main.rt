@@ -339,6 +339,7 @@ fn run_totals(
 }
 
 // Lends a door the part of each buffer that the case's F names, and returns its answer.
+// The three buffers are lent side by side: two fields of a struct behind a reference cannot be lent for writing at once.
 fn run(
     door: Door,
     c: &Case,
