@@ -83,15 +83,17 @@ module _ (s2p : List ℤ) (y from : ℕ) (l : from ≤ length s2p) where
   abbrev pub Found : Option ℕ → Type 0
   Found o = MatchOption o (AllWithin IsNot rest 0 (length rest)) (λ n. (n < length rest) × HoldsAt Is rest n × AllWithin IsNot rest 0 n)
 
-  pub found_rest : (n : ℕ) → (n < length rest) × HoldsAt Is rest n × AllWithin IsNot rest 0 n → FirstCopy s2p (length s2p) y from (from + n)
+  pub found_rest : (n : ℕ) → (n < length rest) × HoldsAt Is rest n × AllWithin IsNot rest 0 n → NextCopy s2p (length s2p) y from (Some (from + n))
   found_rest n h =
-      let s : length rest ≡ length s2p - from = length-drop from s2p in
-      record {
-        above = omega arith;
-        within = omega (arith, h.0, s);
-        passed = passed_rest n h.2;
-        copy = λ p. ap index (sym (get_or-drop from s2p n (pos 0))) ∙ h.1 (pos 0);
-      }
+      let s : length rest ≡ length s2p - from = length-drop from s2p in (
+        record {
+          above = omega arith;
+          within = omega (arith, h.0, s);
+          passed = passed_rest n h.2;
+          copy = λ p. ap index (sym (get_or-drop from s2p n (pos 0))) ∙ h.1 (pos 0);
+        },
+        omega (arith, h.0, s),
+      )
 
   pub none_rest : AllWithin IsNot rest 0 (length rest) → FirstCopy s2p (length s2p) y from (length s2p)
   none_rest h =

@@ -16,7 +16,7 @@ ghost use Rattle.real_to_reciprocal.specs.Shape.{Shaped};
 ghost use Rattle.real_to_reciprocal.specs.Stored.{region_end, FactorsBelow};
 
 use crate::blocks::{block, store_block};
-use crate::supercell::Supercell;
+use crate::supercell::{Supercell, first_copies, later_copies};
 use phonon::{Anchoring, Forces, Legs};
 
 // The force constants in reciprocal space, in the region of w from fo on. The pre-factors are in planes from po on,
@@ -46,8 +46,15 @@ pub fn real_to_reciprocal(
         }))
         × SameOutside w.old w.new fo (region_end fo np) }
 {
-    let cell = Supercell::of(*forces, np, ns);
-    let mut t: [f64; 54] = [0.0; 54];
+    let first: [u16; 256] = first_copies(forces.p2s, forces.s2p);
+    let later: [u16; 256] = later_copies(forces.s2p);
+    let cell = Supercell {
+        forces: *forces,
+        np,
+        ns,
+        first: &first,
+        later: &later,
+    };
     for i in 0..np {
         for j in 0..np {
             for k in 0..np {
@@ -56,7 +63,7 @@ pub fn real_to_reciprocal(
                     leg1: j,
                     leg2: k,
                 };
-                block(&mut t, w, po, f, &cell, anchoring, atoms);
+                let t = block(w, po, f, &cell, anchoring, atoms);
                 store_block(w, fo, np, atoms, &t);
             }
         }

@@ -9,12 +9,14 @@ use common::{cmplx_add, cmplx_mul, is_zero};
 use phonon::Complex;
 use planes::{get_split, put_split};
 
-// Zero in the d numbers from off on.
+// Zero in the d numbers from off on. One by one: `fill` calls the C library, which takes longer than so few stores.
 fn clear_planes(w: &mut [f64], off: usize, d: usize)
     requires { off + 2 * d ≤ length w.old }
     ensures { WroteSplit w.old w.new off d d (λ x. czero) }
 {
-    w[off..off + 2 * d].fill(0.0);
+    for x in 0..d {
+        put_split(w, off, d, x, Complex { re: 0.0, im: 0.0 });
+    }
 }
 
 // Adds e times the planes at fo to the planes at off.

@@ -6,10 +6,9 @@ use Rattle.real_to_reciprocal.proofs.real_to_reciprocal.Goals as goal
 
 pub loop-k-preserved : goal.loop-k-preserved
 loop-k-preserved c =
-    let pk = c.loop-k-test.true in
-    let e = c.of-cell.ensures in (
+    let pk = c.loop-k-test.true in (
       omega (arith, pk),
-      turn_k _ _ _ _ _ c.requires.3 _ _ c.loop-i.i c.loop-j.j c.loop-k.k c.loop-i-test.true c.loop-j-test.true pk c.loop-k.invariant.1 (rw (e.0, e.1, e.2) at c.block.ensures) c.store_block.ensures,
+      turn_k _ _ _ _ _ c.requires.3 _ _ c.loop-i.i c.loop-j.j c.loop-k.k c.loop-i-test.true c.loop-j-test.true pk c.loop-k.invariant.1 c.block-t.ensures c.store_block.ensures,
     )
 
 pub loop-j-preserved : goal.loop-j-preserved

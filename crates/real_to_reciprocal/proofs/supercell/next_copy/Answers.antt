@@ -14,8 +14,8 @@ found c =
     IsFirst-from_position _ _ _ (Is s y f c.requires) (IsNot s y f c.requires) c.position.ensures.ran
     (YieldsList-from_slice (rest s y f c.requires) (c.iter.ensures.rest ∙ rest_is s y f c.requires)) (λ x q p. search rules) (λ x q p. search rules)
 
-pub returns-in-Some : goal.returns-in-Some
-returns-in-Some c = found_rest _ _ _ c.requires c.in-Some.n (rw c.in-Some.is at (found (goal.at.returns-in-Some c).After-position))
+pub returns : goal.returns
+returns c = found_rest _ _ _ c.requires c.in_ok-n.n (rw c.in_ok-n.was at (found (goal.at.returns c).After-position))
 
-pub returns-in-None : goal.returns-in-None
-returns-in-None c = none_rest _ c.args.y _ c.requires (rw c.in-None.is at (found (goal.at.returns-in-None c).After-position))
+pub returns-in_err-n : goal.returns-in_err-n
+returns-in_err-n c = rw c.from_residual.ensures (none_rest _ c.args.y _ c.requires (rw c.in_err-n.was at (found (goal.at.returns-in_err-n c).After-position)))
