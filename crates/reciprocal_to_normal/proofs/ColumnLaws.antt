@@ -3,6 +3,7 @@ use mathlib.Core.Path.{◌≡◌, refl, ◌∙◌}
 use mathlib.Core.List.{List}
 use Prim.Native.Nat.{ℕ, ◌+◌, ◌*◌, ◌<◌, ◌≤◌}
 use native.Mathlib.Omega.{arith}
+use native.Mathlib.Nat.{add-mul, mul_assoc, mul_left_comm}
 use lib.ListN.{length, set, length-set}
 use lib.Seq.{get_or-set_same, get_or-set_other}
 use borrow.Author.Count.{below_more}
@@ -18,6 +19,10 @@ use Rattle.reciprocal_to_normal.specs.declared.places.Vector.{Vector}
 use Rattle.reciprocal_to_normal.specs.Places.{Below, number_in, column_of, column_dot}
 use Rattle.reciprocal_to_normal.specs.Columns.{sum_at, Summed}
 use Rattle.reciprocal_to_normal.proofs.DotLaws.{dot_ext}
+
+-- row 4 * i + p, from row p on
+pub lane_place : (i p n : ℕ) → p * n + i * (4 * n) ≡ (4 * i + p) * n
+lane_place i p n = omega (arith, add-mul (4 * i) p n, mul_assoc 4 i n, mul_left_comm i 4 n)
 
 -- of the n sums those below m are f 0, f 1, .., f (m - 1); the others are as in t
 pub record Begun {n : ℕ} (t t' : Sums n) (m : ℕ) (f : ℕ → Complex) : Type 0 where

@@ -6,7 +6,7 @@ use Rattle.phonon.specs.Common.{czero}
 use Rattle.planes.proofs.SplitLaws.{split_at}
 use Rattle.planes.proofs.Products.{row_le}
 use Rattle.reciprocal_to_normal.specs.Places.{number_in, column_of}
-use Rattle.reciprocal_to_normal.proofs.ColumnLaws.{summed_ext}
+use Rattle.reciprocal_to_normal.proofs.ColumnLaws.{summed_ext, lane_place}
 use Rattle.reciprocal_to_normal.proofs.DotLaws.{turn, lane_done}
 use native.Mathlib.Omega.{arith}
 use Rattle.reciprocal_to_normal.proofs.columns.lane_columns.Goals as goal
@@ -21,6 +21,12 @@ get-requires g c =
     let h : 4 * c.loop-i.i + a.p < a.n = omega arith in
     omega (arith, row_le a.v.step h)
 
+pub add_row-requires : goal.add_row-requires
+add_row-requires g c =
+    let a = c.args in
+    let h : 4 * c.loop-i.i + a.p < a.n = omega arith in
+    omega (arith, lane_place c.loop-i.i a.p a.n, row_le a.n h)
+
 pub loop-i-preserved : goal.loop-i-preserved
 loop-i-preserved g c =
     let a = c.args in
@@ -29,7 +35,7 @@ loop-i-preserved g c =
       omega arith,
       summed_ext c.add_row.ensures
           (λ q h. turn (column_of a.w.now a.m a.n (a.j + q)) (number_in a.w.now a.v) czero (λ s. 4 * s + a.p) i (c.loop-i.invariant.1.sum q h)
-          (split_at a.w.now (a.m.at + (k * a.n + a.j)) a.m.at a.m.apart q (k * a.n + (a.j + q)) (omega arith)) c.get.ensures),
+          (split_at a.w.now (a.m.at + (a.p * a.n + a.j) + i * (4 * a.n)) a.m.at a.m.apart q (k * a.n + (a.j + q)) (omega (arith, lane_place i a.p a.n))) c.get.ensures),
     )
 
 pub returns : goal.returns
