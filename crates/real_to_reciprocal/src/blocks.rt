@@ -96,10 +96,11 @@ pub fn store_block(w: &mut [f64], fo: usize, np: usize, atoms: Legs<usize>, t: &
     }
 }
 
-// The sums of one leg for three atoms, times the pre-factor of the first. Laid into its callers, so that each leg has its own
-// loop.
+// Writes to t the sums of one leg for three atoms, times the pre-factor of the first. Laid into its callers, so that each
+// leg has its own loop.
 #[inline(always)]
 fn leg_block(
+    t: &mut [f64; 54],
     w: &[f64],
     po: usize,
     f1: usize,
@@ -107,77 +108,97 @@ fn leg_block(
     cell: &Supercell<'_>,
     leg: Leg,
     atoms: Legs<usize>,
-) -> [f64; 54]
+)
     requires { (po + 2 * cell.now.np ≤ length w.now)
         × (f1 + 2 * (cell.now.np * cell.now.ns) ≤ length w.now)
         × (f2 + 2 * (cell.now.np * cell.now.ns) ≤ length w.now)
         × AtomsBelow cell.now.np atoms }
-    ensures { Cols result 27
+    ensures { Cols t.new 27
         (λ e. cmul
         (Def.element cell.now.ns (forces_of cell.now.forces) leg
         (split w.now f1 (cell.now.np * cell.now.ns)) (split w.now f2 (cell.now.np * cell.now.ns))
         atoms.leg0 atoms.leg1 atoms.leg2 e)
         (split w.now po cell.now.np atoms.leg0)) }
 {
-    let mut t = real_to_reciprocal_elements(w, f1, f2, cell, leg, atoms);
+    *t = real_to_reciprocal_elements(w, f1, f2, cell, leg, atoms);
     let z = get_split(w, po, cell.np, atoms.leg0);
-    change_each(&mut t, |_, s| cmplx_mul(s, z));
-    t
+    change_each(t, |_, s| cmplx_mul(s, z));
 }
 
-// The block of three atoms, anchored at each in turn and averaged.
+// Writes the block of three atoms to t, anchored at each in turn and averaged.
 fn r0_average_block(
+    t: &mut [f64; 54],
     w: &[f64],
     po: usize,
     f: Legs<usize>,
     cell: &Supercell<'_>,
     atoms: Legs<usize>,
-) -> [f64; 54]
+)
     requires { FactorsBelow (length w.now) po f cell.now.np cell.now.ns × AtomsBelow cell.now.np atoms }
-    ensures { Cols result 27
+    ensures { Cols t.new 27
         (λ e. Def.averaged_element cell.now.ns (forces_of cell.now.forces)
         (factors_in w.now po f cell.now.np cell.now.ns)
         atoms.leg0 atoms.leg1 atoms.leg2 (e / 9) (e % 9 / 3) (e % 3)) }
 {
+    let mut second: [f64; 54] = [0.0; 54];
+    let mut third: [f64; 54] = [0.0; 54];
     let Legs {
         leg0: i,
         leg1: j,
         leg2: k,
     } = atoms;
-    let mut t = leg_block(w, po, f.leg1, f.leg2, cell, Leg::First, atoms);
+    leg_block(t, w, po, f.leg1, f.leg2, cell, Leg::First, atoms);
     let exchanged = Legs {
         leg0: j,
         leg1: i,
         leg2: k,
     };
-    let second = leg_block(w, po, f.leg0, f.leg2, cell, Leg::Second, exchanged);
+    leg_block(
+        &mut second,
+        w,
+        po,
+        f.leg0,
+        f.leg2,
+        cell,
+        Leg::Second,
+        exchanged,
+    );
     let reversed = Legs {
         leg0: k,
         leg1: j,
         leg2: i,
     };
-    let third = leg_block(w, po, f.leg1, f.leg0, cell, Leg::Third, reversed);
-    average(&mut t, &second, &third);
-    t
+    leg_block(
+        &mut third,
+        w,
+        po,
+        f.leg1,
+        f.leg0,
+        cell,
+        Leg::Third,
+        reversed,
+    );
+    average(t, &second, &third);
 }
 
-// The block of three atoms. Anchored plainly, it is the sums of a leg alone.
+// Writes the block of three atoms to t. Anchored plainly, it is the sums of a leg alone.
 pub fn block(
+    t: &mut [f64; 54],
     w: &[f64],
     po: usize,
     f: Legs<usize>,
     cell: &Supercell<'_>,
     anchoring: Anchoring,
     atoms: Legs<usize>,
-) -> [f64; 54]
+)
     requires { FactorsBelow (length w.now) po f cell.now.np cell.now.ns × AtomsBelow cell.now.np atoms }
-    ensures { Cols result 27
+    ensures { Cols t.new 27
         (λ e. Def.anchored cell.now.ns (forces_of cell.now.forces)
         (factors_in w.now po f cell.now.np cell.now.ns)
         atoms.leg0 atoms.leg1 atoms.leg2 (e / 9) (e % 9 / 3) (e % 3) anchoring) }
 {
     match anchoring {
-        Anchoring::Plain => leg_block(w, po, f.leg1, f.leg2, cell, Leg::Alone, atoms),
-        Anchoring::Averaged => r0_average_block(w, po, f, cell, atoms),
+        Anchoring::Plain => leg_block(t, w, po, f.leg1, f.leg2, cell, Leg::Alone, atoms),
+        Anchoring::Averaged => r0_average_block(t, w, po, f, cell, atoms),
     }
 }

@@ -55,6 +55,7 @@ pub fn real_to_reciprocal(
         first: &first,
         later: &later,
     };
+    let mut t: [f64; 54] = [0.0; 54];
     for i in 0..np {
         for j in 0..np {
             for k in 0..np {
@@ -63,7 +64,7 @@ pub fn real_to_reciprocal(
                     leg1: j,
                     leg2: k,
                 };
-                let t = block(w, po, f, &cell, anchoring, atoms);
+                block(&mut t, w, po, f, &cell, anchoring, atoms);
                 store_block(w, fo, np, atoms, &t);
             }
         }

@@ -19,10 +19,10 @@ use Rattle.planes.proofs.Products.{row_le}
 use Rattle.reciprocal_to_normal.specs.Arrays.{contracted, amplitude_from}
 use Rattle.reciprocal_to_normal.specs.declared.plane.Plane.{Plane}
 use Rattle.reciprocal_to_normal.specs.Places.{number_in, column_dot}
-use Rattle.reciprocal_to_normal.specs.Slots.{b_of, j_of, k_of, InColumn, plane_slot, bands_of, Fits, matrix_of, legs1_of, leg1_of, leg2_of, row_of, strength_in, amplitude_in, slot_in, slot_strength}
+use Rattle.reciprocal_to_normal.specs.Slots.{b_of, j_of, k_of, InColumn, plane_slot, bands_of, matrix_of, legs1_of, leg1_of, leg2_of, row_of, strength_in, amplitude_in, slot_in, slot_strength}
 use Rattle.reciprocal_to_normal.proofs.DotLaws.{dot_ext, dot_commutes}
 
-module _ (p : Plane) (fits : Fits p) where
+module _ (p : Plane) where
   abbrev B : ℕ
   B = bands_of p
 
@@ -33,9 +33,9 @@ module _ (p : Plane) (fits : Fits p) where
     amplitude_kept j k pj pk =
         dot_ext B _ _ _ _
         (λ bm h. dot_ext B _ _ _ _
-        (λ cn q. let r = pair_lt q h in split_outside u p.matrix (B * B) (cn * B + bm) (omega (arith, fits.2)))
-        (λ cn q. let r = pair_lt q pk in split_outside u p.leg2 (B * B) (cn * B + k) (omega (arith, fits.4))))
-        (λ bm h. let r = pair_lt h pj in split_outside u p.leg1 (B * B) (bm * B + j) (omega (arith, fits.3)))
+        (λ cn q. let r = pair_lt q h in split_outside u p.matrix (B * B) (cn * B + bm) (omega (arith, p.fits.2)))
+        (λ cn q. let r = pair_lt q pk in split_outside u p.leg2 (B * B) (cn * B + k) (omega (arith, p.fits.4))))
+        (λ bm h. let r = pair_lt h pj in split_outside u p.leg1 (B * B) (bm * B + j) (omega (arith, p.fits.3)))
 
     pub slot_kept : (n : ℕ) → j_of B n < B → k_of B n < B → slot_in l' p n ≡ slot_in l p n
     unfolding plane_slot
@@ -47,7 +47,7 @@ module _ (p : Plane) (fits : Fits p) where
     row_at bm h = w.inside bm h ∙ dot_ext B _ _ _ _ (λ cn q. refl) (λ cn q. split_at l (p.leg2 + k) p.leg2 (B * B) (cn * B) (cn * B + k) (omega arith))
 
     leg1_at : (j i : ℕ) → j < B → i < B → split l₁ p.leg1 (B * B) (i * B + j) ≡ split l p.leg1 (B * B) (i * B + j)
-    leg1_at j i pj h = let r = pair_lt h pj in split_below w p.leg1 (B * B) (i * B + j) (omega (arith, fits.3))
+    leg1_at j i pj h = let r = pair_lt h pj in split_below w p.leg1 (B * B) (i * B + j) (omega (arith, p.fits.3))
 
     -- of all j
     dots_are : {l₂ : List Float} (ao : ℕ) → WroteSplit l₁ l₂ ao B B (column_dot l₁ (legs1_of p) (row_of p) B) → (j : ℕ) → j < B → split l₂ ao B j ≡ amplitude_in l p j k

@@ -50,13 +50,6 @@ plane_slot B m e1 e2 f1 f2 x cutoff n = strength_from cutoff (amplitude_from B m
 abbrev pub bands_of : Plane → ℕ
 bands_of p = 3 * p.atoms
 
--- what is read lies below the row, and there is a frequency for each band
-abbrev pub Fits : Plane → Type 0
-Fits p =
-    (1 ≤ p.atoms) × (p.atoms ≤ 1000)
-    × (p.matrix + 2 * (bands_of p * bands_of p) ≤ p.row) × (p.leg1 + 2 * (bands_of p * bands_of p) ≤ p.row) × (p.leg2 + 2 * (bands_of p * bands_of p) ≤ p.row)
-    × (bands_of p ≤ length p.freqs1.now) × (bands_of p ≤ length p.freqs2.now)
-
 -- the matrix, all bands of leg 1, and the row
 abbrev pub matrix_of : Plane → Planes
 matrix_of p = record { at = p.matrix; apart = bands_of p * bands_of p }

@@ -1,7 +1,6 @@
 // reciprocal_to_normal.rs: the strengths of a triplet's slots, from the force constants in reciprocal space.
 //
-// Loops count numbers, and are not over slices: what they read and what they write stands in one buffer, the caller's, at places that
-// are sums.
+// Loops run over numbers of bands, components and atoms: what they read and write stands in the caller's buffer, at places that are worked from them.
 #![tactic(auto)]
 
 pub mod columns;
@@ -9,6 +8,7 @@ pub mod contract;
 pub mod dot;
 pub mod gather;
 pub mod listing;
+pub mod operands;
 pub mod places;
 pub mod plane;
 pub mod row;

@@ -3,8 +3,7 @@ ghost use Rattle.std.specs.Prelude.{◌≡◌, ◌+◌, ◌*◌, ◌<◌, ◌≤
 ghost use Rattle.phonon.specs.Sets.{slot};
 ghost use Rattle.phonon.specs.ReciprocalToNormal.{dot};
 ghost use Rattle.planes.specs.Split.{split, WroteSplit};
-ghost use Rattle.reciprocal_to_normal.specs.Places.{number_in, column_dot};
-ghost use Rattle.reciprocal_to_normal.specs.Slots.{bands_of, Fits, matrix_of, legs1_of, leg1_of, leg2_of, row_of, strength_in};
+ghost use Rattle.reciprocal_to_normal.specs.Places.{number_in, column_dot, PlaneFits};
 
 use crate::dot::cmplx_dot_partial4;
 use crate::places::{Planes, Vector};
@@ -25,13 +24,15 @@ pub struct Plane<'a> {
     pub freqs1: &'a [f64],
     pub freqs2: &'a [f64],
     pub cutoff: f64,
+    pub ghost fits: { PlaneFits atoms matrix leg1 leg2 row (length freqs1.now) (length freqs2.now) },
 }
 
 impl Plane<'_> {
+    ghost use Rattle.reciprocal_to_normal.specs.Slots.{bands_of, matrix_of, legs1_of, leg1_of, leg2_of, row_of, strength_in};
+
     // At row, the contraction of the matrix with band k of leg 2.
     pub fn contract_leg2(&self, w: &mut [f64], k: usize)
-        requires plane { Fits self.now }
-        requires sizes { (k < bands_of self.now) × (self.now.row + 2 * bands_of self.now ≤ length w.old) }
+        requires { (k < bands_of self.now) × (self.now.row + 2 * bands_of self.now ≤ length w.old) }
         ensures { WroteSplit w.old w.new self.now.row (bands_of self.now) (bands_of self.now)
             (column_dot w.old (matrix_of self.now) (leg2_of self.now k) (bands_of self.now)) }
     {
@@ -51,8 +52,7 @@ impl Plane<'_> {
 
     // Behind the row, its dot products with all bands of leg 1.
     pub fn contract_leg1(&self, w: &mut [f64])
-        requires plane { Fits self.now }
-        requires sizes { self.now.row + 4 * bands_of self.now ≤ length w.old }
+        requires { self.now.row + 4 * bands_of self.now ≤ length w.old }
         ensures { WroteSplit w.old w.new (self.now.row + 2 * bands_of self.now) (bands_of self.now) (bands_of self.now)
             (column_dot w.old (legs1_of self.now) (row_of self.now) (bands_of self.now)) }
     {
@@ -71,8 +71,7 @@ impl Plane<'_> {
 
     // The dot product of the row and band j of leg 1.
     pub fn dot(&self, w: &[f64], j: usize) -> Complex
-        requires plane { Fits self.now }
-        requires sizes { (j < bands_of self.now) × (self.now.row + 2 * bands_of self.now ≤ length w.now) }
+        requires { (j < bands_of self.now) × (self.now.row + 2 * bands_of self.now ≤ length w.now) }
         ensures { result ≡ dot (bands_of self.now) (split w.now self.now.row (bands_of self.now)) (number_in w.now (leg1_of self.now j)) }
     {
         let nb = 3 * self.atoms;

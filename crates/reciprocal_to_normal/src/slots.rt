@@ -8,12 +8,11 @@ ghost use Rattle.planes.specs.Region.{SameOutside};
 ghost use Rattle.planes.specs.Split.{split};
 ghost use Rattle.planes.specs.Layout.{constants_in, phonon_in};
 ghost use Rattle.reciprocal_to_normal.specs.Places.{number_in};
-ghost use Rattle.reciprocal_to_normal.specs.Slots.{Visited, j_of, InColumn, InPlane, InSlots, bands_of, Fits, leg1_of, strength_in, slot_in};
+ghost use Rattle.reciprocal_to_normal.specs.Slots.{Visited, j_of, InColumn, InPlane, InSlots, bands_of, leg1_of, strength_in, slot_in};
 
-use crate::contract::contract_fc3_e0;
+use crate::operands::Operands;
 use crate::plane::{Column, Plane};
 use crate::strength::strength_of;
-use phonon::Legs;
 use planes::{get_split, index_at};
 
 // Whether slot i is flagged.
@@ -46,7 +45,7 @@ fn mostly_flagged(flags: &[u8], c: Column) -> bool
     if c.bands < 6 {
         return false;
     }
-    // By a loop: `filter` and `count` work each slot's place anew.
+    // By a loop, for the reason that all_flagged has.
     let mut count: usize = 0;
     for j in 0..c.bands {
         if !is_flagged(flags, c.slot(j)) {
@@ -58,8 +57,7 @@ fn mostly_flagged(flags: &[u8], c: Column) -> bool
 
 // The slots of the column, from their amplitudes at ao. The strength of a flagged slot, a division, is not worked.
 fn fill_column(out: &mut [f64], flags: &[u8], w: &[f64], ao: usize, p: &Plane<'_>, c: Column)
-    requires plane { Fits p.now }
-    requires sizes { InSlots c (length out.old)
+    requires { InSlots c (length out.old)
         × (c.bands ≡ bands_of p.now)
         × (length out.old ≤ length flags.now)
         × (ao + 2 * c.bands ≤ length w.now) }
@@ -90,8 +88,7 @@ fn fill_from_row(
     k: usize,
     i: usize,
 )
-    requires plane { Fits p.now }
-    requires sizes { (j < bands_of p.now)
+    requires { (j < bands_of p.now)
         × (k < bands_of p.now)
         × (i < length out.old)
         × (i < length flags.now)
@@ -108,8 +105,7 @@ fn fill_from_row(
 
 // The slots of the column, from the row: one dot product for each that is not flagged.
 fn fill_sparse_column(out: &mut [f64], flags: &[u8], w: &[f64], p: &Plane<'_>, c: Column)
-    requires plane { Fits p.now }
-    requires sizes { InSlots c (length out.old)
+    requires { InSlots c (length out.old)
         × (c.bands ≡ bands_of p.now)
         × (length out.old ≤ length flags.now)
         × (p.now.row + 2 * bands_of p.now ≤ length w.now) }
@@ -124,8 +120,7 @@ fn fill_sparse_column(out: &mut [f64], flags: &[u8], w: &[f64], p: &Plane<'_>, c
 
 // The slots (b, j, k) of all j. If one is not flagged, writes the row; behind it lies room for the amplitudes.
 fn fill_pair(out: &mut [f64], flags: &[u8], w: &mut [f64], p: &Plane<'_>, b: usize, k: usize)
-    requires plane { Fits p.now }
-    requires sizes { (k < bands_of p.now)
+    requires { (k < bands_of p.now)
         × ((b + 1) * bands_of p.now * bands_of p.now ≤ length out.old)
         × (length out.old ≤ length flags.now)
         × (p.now.row + 4 * bands_of p.now ≤ length w.old) }
@@ -148,8 +143,7 @@ fn fill_pair(out: &mut [f64], flags: &[u8], w: &mut [f64], p: &Plane<'_>, b: usi
 
 // The slots (b, j, k) of all k and j.
 fn fill_plane(out: &mut [f64], flags: &[u8], w: &mut [f64], p: &Plane<'_>, b: usize)
-    requires plane { Fits p.now }
-    requires sizes { ((b + 1) * bands_of p.now * bands_of p.now ≤ length out.old)
+    requires { ((b + 1) * bands_of p.now * bands_of p.now ≤ length out.old)
         × (length out.old ≤ length flags.now)
         × (p.now.row + 4 * bands_of p.now ≤ length w.old) }
     ensures { Visited out.old out.new (flagged flags.now) (slot_in w.old p.now) (length out.old) (InPlane (bands_of p.now) b (bands_of p.now))
@@ -160,61 +154,32 @@ fn fill_plane(out: &mut [f64], flags: &[u8], w: &mut [f64], p: &Plane<'_>, b: us
     }
 }
 
-// All slots, from the force constants at fo and the scaled eigenvectors of the three legs at e0, e1 and e2. From so on lie
-// the contracted matrix, its row and the amplitudes.
+// All slots. Behind the matrix lie its row and the amplitudes.
 #[tactic(auto, using(phonon::proofs::Accepted::index_below))]
 pub fn reciprocal_to_normal_squared(
     out: &mut [f64],
     flags: &[u8],
     w: &mut [f64],
-    fo: usize,
-    e: Legs<usize>,
-    so: usize,
-    freqs: Legs<&[f64]>,
+    o: &Operands<'_>,
     bands: &[i64],
-    np: usize,
-    cutoff: f64,
 )
-    requires sizes { (1 ≤ np)
-        × (np ≤ 1000)
-        × (length out.old ≡ length bands.now * (3 * np) * (3 * np))
-        × (length flags.now ≡ length bands.now * (3 * np) * (3 * np)) }
-    requires tables { (3 * np ≤ length freqs.leg0.now)
-        × (3 * np ≤ length freqs.leg1.now)
-        × (3 * np ≤ length freqs.leg2.now)
-        × (all_within (pos 0) (pos (3 * np - 1)) bands.now ≡ true) }
-    requires layout { (fo + 2 * (3 * np * (3 * np * (3 * np))) ≤ so)
-        × (e.leg0 + 2 * (3 * np * (3 * np)) ≤ so)
-        × (e.leg1 + 2 * (3 * np * (3 * np)) ≤ so)
-        × (e.leg2 + 2 * (3 * np * (3 * np)) ≤ so)
-        × (so + 2 * (3 * np * (3 * np)) + 4 * (3 * np) ≤ length w.old) }
-    ensures { (out.new ≡ table (length bands.now * (3 * np) * (3 * np))
+    requires sizes { (length out.old ≡ length bands.now * (3 * o.now.atoms) * (3 * o.now.atoms))
+        × (length flags.now ≡ length bands.now * (3 * o.now.atoms) * (3 * o.now.atoms))
+        × (o.now.scratch + 2 * (3 * o.now.atoms * (3 * o.now.atoms)) + 4 * (3 * o.now.atoms) ≤ length w.old) }
+    requires entries { all_within (pos 0) (pos (3 * o.now.atoms - 1)) bands.now ≡ true }
+    ensures { (out.new ≡ table (length bands.now * (3 * o.now.atoms) * (3 * o.now.atoms))
         (λ n. cond (flagged flags.now n) (at out.old n)
-        (strength np (constants_in w.old fo np)
+        (strength o.now.atoms (constants_in w.old o.now.constants o.now.atoms)
         (record {
-          leg0 = phonon_in w.old e.leg0 (3 * np) freqs.entry.leg0.now
-              (index (int bands.now (n / (3 * np) / (3 * np))));
-          leg1 = phonon_in w.old e.leg1 (3 * np) freqs.entry.leg1.now (n / (3 * np) % (3 * np));
-          leg2 = phonon_in w.old e.leg2 (3 * np) freqs.entry.leg2.now (n % (3 * np));
-        }) cutoff)))
-        × SameOutside w.old w.new so (so + 2 * (3 * np * (3 * np)) + 4 * (3 * np)) }
+          leg0 = phonon_in w.old o.now.legs.leg0 (3 * o.now.atoms) o.now.freqs.leg0.now
+              (index (int bands.now (n / (3 * o.now.atoms) / (3 * o.now.atoms))));
+          leg1 = phonon_in w.old o.now.legs.leg1 (3 * o.now.atoms) o.now.freqs.leg1.now (n / (3 * o.now.atoms) % (3 * o.now.atoms));
+          leg2 = phonon_in w.old o.now.legs.leg2 (3 * o.now.atoms) o.now.freqs.leg2.now (n % (3 * o.now.atoms));
+        }) o.now.cutoff)))
+        × SameOutside w.old w.new o.now.scratch (o.now.scratch + 2 * (3 * o.now.atoms * (3 * o.now.atoms)) + 4 * (3 * o.now.atoms)) }
 {
-    let nb = 3 * np;
-    let row = so + 2 * (nb * nb);
     for b in 0..bands.len() {
-        let n = index_at(bands, b);
-        contract_fc3_e0(w, so, fo, e.leg0 + n, nb);
-        let p = Plane {
-            atoms: np,
-            matrix: so,
-            leg1: e.leg1,
-            leg2: e.leg2,
-            row,
-            x: freqs.leg0[n],
-            freqs1: freqs.leg1,
-            freqs2: freqs.leg2,
-            cutoff,
-        };
+        let p = o.plane(w, index_at(bands, b));
         fill_plane(out, flags, w, &p, b);
     }
 }

@@ -8,7 +8,7 @@ pub loop-k-preserved : goal.loop-k-preserved
 loop-k-preserved c =
     let pk = c.loop-k-test.true in (
       omega (arith, pk),
-      turn_k _ _ _ _ _ c.requires.3 _ _ c.loop-i.i c.loop-j.j c.loop-k.k c.loop-i-test.true c.loop-j-test.true pk c.loop-k.invariant.1 c.block-t.ensures c.store_block.ensures,
+      turn_k _ _ _ _ _ c.requires.3 _ _ c.loop-i.i c.loop-j.j c.loop-k.k c.loop-i-test.true c.loop-j-test.true pk c.loop-k.invariant.1 c.block.ensures c.store_block.ensures,
     )
 
 pub loop-j-preserved : goal.loop-j-preserved

@@ -6,5 +6,7 @@ use Rattle.reciprocal_to_normal.proofs.listing.full_strengths.Given as goal
 
 abbrev pub invariant-loop-b : goal.invariant-loop-b
 invariant-loop-b l =
-    (l.b ≤ 3 * l.np) × WroteAbove l.initial.w l.w l.so (l.so + 2 * (3 * l.np * (3 * l.np)) + 2 * (3 * l.np)) l.to (l.b * (3 * l.np * (3 * l.np)))
-    (slot_strength l.np l.initial.w l.fo l.e.leg0 l.e.leg1 l.e.leg2 l.freqs.leg0.now l.freqs.leg1.now l.freqs.leg2.now (λ i. i) l.cutoff)
+    let o = l.o in
+    let B = 3 * o.atoms in
+    (l.b ≤ B) × WroteAbove l.initial.w l.w o.scratch (o.scratch + 2 * (B * B) + 2 * B) l.to (l.b * (B * B))
+    (slot_strength o.atoms l.initial.w o.constants o.legs.leg0 o.legs.leg1 o.legs.leg2 o.freqs.leg0.now o.freqs.leg1.now o.freqs.leg2.now (λ i. i) o.cutoff)

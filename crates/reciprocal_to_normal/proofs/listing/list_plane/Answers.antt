@@ -20,7 +20,7 @@ loop-j-preserved c =
     let d = bands_of p * bands_of p in (
       omega (arith, pj),
       above_to (j * bands_of p + bands_of p) ((j + 1) * bands_of p) (omega (arith, add-mul j 1 (bands_of p)))
-          (above_append inv c.list_row.ensures c.requires.sizes.0
-          (λ k pk. ap (λ y. strength_in p y j k) (amplitude_kept p c.requires.plane (outside_above inv) j k pj pk)
+          (above_append inv c.list_row.ensures c.requires.0
+          (λ k pk. ap (λ y. strength_in p y j k) (amplitude_kept p (outside_above inv) j k pj pk)
           ∙ row_is (bands_of p) pj pk (split a.w.now p.matrix d) (split a.w.now p.leg1 d) (split a.w.now p.leg2 d) (at p.freqs1.now) (at p.freqs2.now) p.x p.cutoff)),
     )

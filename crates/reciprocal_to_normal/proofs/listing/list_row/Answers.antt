@@ -15,7 +15,7 @@ loop-k-preserved c =
     let k = c.loop-k.k in
     let pk = c.loop-k-test.true in (
       omega (arith, pk),
-      above_append inv c.list_slot.ensures c.requires.sizes.1
+      above_append inv c.list_slot.ensures c.requires.1
           (λ i h. let e : k + i ≡ k = omega arith in
-          rw e (ap (λ y. strength_in p y a.j k) (amplitude_kept p c.requires.plane (outside_above inv) a.j k c.requires.sizes.0 (omega (arith, pk))))),
+          rw e (ap (λ y. strength_in p y a.j k) (amplitude_kept p (outside_above inv) a.j k c.requires.0 (omega (arith, pk))))),
     )

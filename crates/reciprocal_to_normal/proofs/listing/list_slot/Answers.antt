@@ -13,7 +13,7 @@ returns c =
     let a = c.args in
     let p = a.p.now in
     let w = c.contract_leg2.ensures in
-    let sizes = c.requires.sizes in
+    let sizes = c.requires in
     above_outside (outside_split p.row (p.row + 2 * bands_of p) (omega arith) (omega arith) refl w) sizes.2
     (above_put _ p.row (p.row + 2 * bands_of p) a.to (omega (arith, w.size, sizes.3)) (omega (arith, sizes.2))
-    (c.strength.ensures ∙ ap (λ y. strength_in p y a.j a.k) (c.dot.ensures ∙ dot_is p c.requires.plane a.k w a.j sizes.0)))
+    (c.strength.ensures ∙ ap (λ y. strength_in p y a.j a.k) (c.dot.ensures ∙ dot_is p a.k w a.j sizes.0)))

@@ -17,9 +17,9 @@ loop-j-preserved c =
     let j = c.loop-j.j in
     let inv = c.loop-j.invariant.1 in
     let pj = c.loop-j-test.true in
-    let pk = c.requires.sizes.0.1 in
+    let pk = c.requires.0.1 in
     let place = c.slot-place.ensures in
-    let room : c.slot-place.result < length c.loop-j.out = omega (arith, slot_lt s.bands s.b j s.k pj pk, c.requires.sizes, inv.size, place) in
+    let room : c.slot-place.result < length c.loop-j.out = omega (arith, slot_lt s.bands s.b j s.k pj pk, c.requires, inv.size, place) in
     let flag = sym c.is_flagged.ensures in (
       omega (arith, pj),
       column_step _ _ _ s.bands s.b s.k j pj pk inv

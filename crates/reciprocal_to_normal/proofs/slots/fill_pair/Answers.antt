@@ -19,7 +19,7 @@ returns-then-mostly_flagged c =
     let a = c.args in
     let p = a.p.now in
     let w = c.contract_leg2.ensures in
-    (visited_ext c.fill_sparse_column.ensures (λ n q d. sparse_is p c.requires.plane a.k w a.b n d), outside_split p.row (p.row + 4 * bands_of p) (omega arith) (omega arith) refl w)
+    (visited_ext c.fill_sparse_column.ensures (λ n q d. sparse_is p a.k w a.b n d), outside_split p.row (p.row + 4 * bands_of p) (omega arith) (omega arith) refl w)
 
 pub returns : goal.returns
 returns c =
@@ -28,6 +28,6 @@ returns c =
     let w = c.contract_leg2.ensures in
     let v = c.contract_leg1.ensures in
     let end = p.row + 4 * bands_of p in (
-      visited_ext c.fill_column.ensures (λ n q d. pair_is p c.requires.plane a.k w (p.row + 2 * bands_of p) v a.b n d),
+      visited_ext c.fill_column.ensures (λ n q d. pair_is p a.k w (p.row + 2 * bands_of p) v a.b n d),
       outside_then (outside_split p.row end (omega arith) (omega arith) refl w) (outside_split p.row end (omega arith) (omega arith) refl v),
     )

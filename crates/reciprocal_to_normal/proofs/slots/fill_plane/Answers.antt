@@ -12,10 +12,9 @@ loop-k-preserved c =
     let p = a.p.now in
     let inv = c.loop-k.invariant in
     let k = c.loop-k.k in
-    let pk = c.loop-k-test.true in
-    let fits = c.requires.plane in (
+    let pk = c.loop-k-test.true in (
       omega (arith, pk),
-      plane_step _ _ _ (bands_of p) a.b k (omega (arith, fits.0)) inv.1
-          (visited_ext (rw inv.1.size at c.fill_pair.ensures.0) (λ n q d. slot_kept p fits inv.2 n d.2 (omega (arith, d.1, pk)))),
+      plane_step _ _ _ (bands_of p) a.b k (omega (arith, p.fits.0)) inv.1
+          (visited_ext (rw inv.1.size at c.fill_pair.ensures.0) (λ n q d. slot_kept p inv.2 n d.2 (omega (arith, d.1, pk)))),
       outside_then inv.2 c.fill_pair.ensures.1,
     )

@@ -15,7 +15,7 @@ loop-j-preserved c =
     let j = c.loop-j.j in
     let inv = c.loop-j.invariant.1 in
     let pj = c.loop-j-test.true in
-    let pk = c.requires.sizes.0.1 in (
+    let pk = c.requires.0.1 in (
       omega (arith, pj),
       column_step _ _ _ s.bands s.b s.k j pj pk inv
           (visited_ext (rw (inv.size, c.slot.ensures) at c.fill_from_row.ensures)

@@ -8,6 +8,8 @@ use Rattle.reciprocal_to_normal.proofs.slots.reciprocal_to_normal_squared.Given 
 
 abbrev pub invariant-loop-b : goal.invariant-loop-b
 invariant-loop-b l =
+    let o = l.o in
+    let B = 3 * o.atoms in
     (l.b ≤ length l.bands)
-    × Visited l.initial.out l.out (flagged l.flags) (slot_strength l.np l.initial.w l.fo l.e.leg0 l.e.leg1 l.e.leg2 l.freqs.leg0.now l.freqs.leg1.now l.freqs.leg2.now (λ i. index (int l.bands i)) l.cutoff) (length l.initial.out) (InAll (3 * l.np) l.b)
-    × SameOutside l.initial.w l.w l.so (l.so + 2 * (3 * l.np * (3 * l.np)) + 4 * (3 * l.np))
+    × Visited l.initial.out l.out (flagged l.flags) (slot_strength o.atoms l.initial.w o.constants o.legs.leg0 o.legs.leg1 o.legs.leg2 o.freqs.leg0.now o.freqs.leg1.now o.freqs.leg2.now (λ i. index (int l.bands i)) o.cutoff) (length l.initial.out) (InAll B l.b)
+    × SameOutside l.initial.w l.w o.scratch (o.scratch + 2 * (B * B) + 4 * B)
