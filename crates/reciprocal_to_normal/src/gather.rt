@@ -9,16 +9,27 @@ use crate::plane::Column;
 use crate::slots::is_flagged;
 use planes::index_at;
 
-// The number of the full listing that the slot of bands x, y, z gathers.
-fn source_place(order: [usize; 3], nb: usize, x: usize, y: usize, z: usize) -> usize
-    requires { (nb ≤ 3000) × InOrder order × (x < nb) × (y < nb) × (z < nb) }
-    ensures { (result ≡ source_place nb order x y z) × (result < nb * (nb * nb)) }
-{
-    let bands: [usize; 3] = [x, y, z];
-    let a = order[0];
-    let b = order[1];
-    let c = order[2];
-    (bands[a] * nb + bands[b]) * nb + bands[c]
+// The full listing of one leg order: where it stands in the work buffer, its bands of a leg, and the order of the legs.
+#[derive(Clone, Copy)]
+pub struct Listing {
+    pub at: usize,
+    pub bands: usize,
+    pub order: [usize; 3],
+    pub ghost few: { bands ≤ 3000 },
+    pub ghost in_order: { InOrder order },
+}
+
+impl Listing {
+    // The number that the slot of bands x, y, z gathers.
+    fn source_place(&self, x: usize, y: usize, z: usize) -> usize
+        requires { (x < self.now.bands) × (y < self.now.bands) × (z < self.now.bands) }
+        ensures { (result ≡ source_place self.now.bands self.now.order x y z)
+            × (result < self.now.bands * (self.now.bands * self.now.bands)) }
+    {
+        let bands: [usize; 3] = [x, y, z];
+        let [a, b, c] = self.order;
+        (bands[a] * self.bands + bands[b]) * self.bands + bands[c]
+    }
 }
 
 // Adds a sixth of s to slot i unless it is flagged.
@@ -34,79 +45,52 @@ fn gather_slot(out: &mut [f64], flags: &[u8], i: usize, s: f64)
 }
 
 // The slots of the column, whose first band is n.
-fn gather_column(
-    out: &mut [f64],
-    flags: &[u8],
-    w: &[f64],
-    to: usize,
-    order: [usize; 3],
-    n: usize,
-    c: Column,
-)
-    requires sizes { InSlots c (length out.old)
-        × (n < c.bands)
+fn gather_column(out: &mut [f64], flags: &[u8], w: &[f64], l: &Listing, n: usize, c: Column)
+    requires { InSlots c (length out.old)
+        × (c.bands ≡ l.now.bands)
+        × (n < l.now.bands)
         × (length out.old ≤ length flags.now)
-        × (to + c.bands * (c.bands * c.bands) ≤ length w.now) }
-    requires legs { InOrder order }
+        × (l.now.at + l.now.bands * (l.now.bands * l.now.bands) ≤ length w.now) }
     ensures { Visited out.old out.new (flagged flags.now)
-        (λ m. gathered w.now to c.bands order (λ i. n) (at out.old m) m) (length out.old) (InColumn c.bands c.b c.k c.bands) }
+        (λ m. gathered w.now l.now.at l.now.bands l.now.order (λ i. n) (at out.old m) m)
+        (length out.old) (InColumn l.now.bands c.b c.k l.now.bands) }
 {
-    for j in 0..c.bands {
-        let p = source_place(order, c.bands, n, j, c.k);
-        gather_slot(out, flags, c.slot(j), w[to + p]);
+    for j in 0..l.bands {
+        let p = l.source_place(n, j, c.k);
+        gather_slot(out, flags, c.slot(j), w[l.at + p]);
     }
 }
 
-// The slots (b, j, k) of all k and j.
-fn gather_plane(
-    out: &mut [f64],
-    flags: &[u8],
-    w: &[f64],
-    to: usize,
-    order: [usize; 3],
-    nb: usize,
-    n: usize,
-    b: usize,
-)
-    requires sizes { (nb ≤ 3000)
-        × (n < nb)
-        × ((b + 1) * nb * nb ≤ length out.old)
+// The slots (b, j, k) of all k and j, whose first band is n.
+fn gather_plane(out: &mut [f64], flags: &[u8], w: &[f64], l: &Listing, n: usize, b: usize)
+    requires { (n < l.now.bands)
+        × ((b + 1) * l.now.bands * l.now.bands ≤ length out.old)
         × (length out.old ≤ length flags.now)
-        × (to + nb * (nb * nb) ≤ length w.now) }
-    requires legs { InOrder order }
+        × (l.now.at + l.now.bands * (l.now.bands * l.now.bands) ≤ length w.now) }
     ensures { Visited out.old out.new (flagged flags.now)
-        (λ m. gathered w.now to nb order (λ i. n) (at out.old m) m) (length out.old) (InPlane nb b nb) }
+        (λ m. gathered w.now l.now.at l.now.bands l.now.order (λ i. n) (at out.old m) m)
+        (length out.old) (InPlane l.now.bands b l.now.bands) }
 {
-    for k in 0..nb {
-        gather_column(out, flags, w, to, order, n, Column { bands: nb, b, k });
+    let bands = l.bands;
+    for k in 0..bands {
+        gather_column(out, flags, w, l, n, Column { bands, b, k });
     }
 }
 
-// Adds to each slot that is not flagged a sixth of its number of the full listing at `to`, which is in this leg order.
-pub fn gather_sixth(
-    out: &mut [f64],
-    flags: &[u8],
-    w: &[f64],
-    to: usize,
-    order: [usize; 3],
-    bands: &[i64],
-    np: usize,
-)
-    requires sizes { (1 ≤ np)
-        × (np ≤ 1000)
-        × (length out.old ≡ length bands.now * (3 * np) * (3 * np))
-        × (length flags.now ≡ length bands.now * (3 * np) * (3 * np))
-        × (to + 3 * np * (3 * np * (3 * np)) ≤ length w.now) }
-    requires entries { (all_within (pos 0) (pos (3 * np - 1)) bands.now ≡ true) × InOrder order }
-    ensures { out.new ≡ table (length bands.now * (3 * np) * (3 * np))
+// Adds to each slot that is not flagged a sixth of its number of the full listing.
+pub fn gather_sixth(out: &mut [f64], flags: &[u8], w: &[f64], l: &Listing, bands: &[i64])
+    requires sizes { (1 ≤ l.now.bands)
+        × (length out.old ≡ length bands.now * l.now.bands * l.now.bands)
+        × (length flags.now ≡ length bands.now * l.now.bands * l.now.bands)
+        × (l.now.at + l.now.bands * (l.now.bands * l.now.bands) ≤ length w.now) }
+    requires entries { all_within (pos 0) (pos (l.now.bands - 1)) bands.now ≡ true }
+    ensures { out.new ≡ table (length bands.now * l.now.bands * l.now.bands)
         (λ n. cond (flagged flags.now n) (at out.old n)
         (at out.old n ⊕ at w.now
-        (to + source_place (3 * np) order (index (int bands.now (n / (3 * np) / (3 * np))))
-        (n / (3 * np) % (3 * np)) (n % (3 * np))) ⊘ f6)) }
+        (l.now.at + source_place l.now.bands l.now.order (index (int bands.now (n / l.now.bands / l.now.bands)))
+        (n / l.now.bands % l.now.bands) (n % l.now.bands)) ⊘ f6)) }
 {
-    let nb = 3 * np;
     for b in 0..bands.len() {
-        let n = index_at(bands, b);
-        gather_plane(out, flags, w, to, order, nb, n, b);
+        gather_plane(out, flags, w, l, index_at(bands, b), b);
     }
 }

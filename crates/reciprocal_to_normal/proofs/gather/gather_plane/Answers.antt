@@ -11,7 +11,7 @@ loop-k-preserved c =
     let inv = c.loop-k.invariant.1 in
     let pk = c.loop-k-test.true in (
       omega (arith, pk),
-      plane_step _ _ _ a.nb a.b c.loop-k.k (omega (arith, c.requires.sizes.1)) inv
+      plane_step _ _ _ a.l.now.bands a.b c.loop-k.k (omega (arith, c.requires.0)) inv
           (visited_ext (rw inv.size at c.gather_column.ensures)
-          (λ m q d. ap (λ o. gathered a.w.now a.to a.nb a.order (λ i. a.n) o m) (inv.rest m q (λ e. omega (arith, e.1, d.1))))),
+          (λ m q d. ap (λ o. gathered a.w.now a.l.now.at a.l.now.bands a.l.now.order (λ i. a.n) o m) (inv.rest m q (λ e. omega (arith, e.1, d.1))))),
     )
