@@ -9,6 +9,7 @@ ghost use Rattle.real_to_normal.specs.Work.{legs_end, work_end, slot_count, Shap
 use crate::layout::Layout;
 use crate::order::{frequencies_of, order_constants};
 use phonon::{Legs, Tables};
+use reciprocal_to_normal::operands::Operands;
 use reciprocal_to_normal::slots::reciprocal_to_normal_squared;
 
 // Writes the slots that are not flagged. The legs have been prepared in w.
@@ -33,18 +34,14 @@ pub fn real_to_normal(
 {
     let np = tables.measures.atoms;
     let at = Layout::of(tables.measures);
-    let f = frequencies_of(tables.phonons.frequencies, g, 3 * np);
     order_constants(w, tables, q, [0, 1, 2]);
-    reciprocal_to_normal_squared(
-        out,
-        flags,
-        w,
-        at.constants,
-        at.columns,
-        at.scratch,
-        f,
-        tables.bands,
-        np,
-        tables.settings.cutoff,
-    );
+    let o = Operands {
+        atoms: np,
+        constants: at.constants,
+        legs: at.columns,
+        scratch: at.scratch,
+        freqs: frequencies_of(tables.phonons.frequencies, g, 3 * np),
+        cutoff: tables.settings.cutoff,
+    };
+    reciprocal_to_normal_squared(out, flags, w, &o, tables.bands);
 }

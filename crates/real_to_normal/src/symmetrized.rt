@@ -10,8 +10,9 @@ use crate::layout::Layout;
 use crate::order::{frequencies_of, order_constants, picked};
 use phonon::{Legs, Tables};
 use planes::order_at;
-use reciprocal_to_normal::gather::gather_sixth;
+use reciprocal_to_normal::gather::{Listing, gather_sixth};
 use reciprocal_to_normal::listing::full_strengths;
+use reciprocal_to_normal::operands::Operands;
 
 // Adds to each slot that is not flagged a sixth of its strength with the legs in this order. The legs have been
 // prepared in w.
@@ -40,20 +41,22 @@ fn add_order(
 {
     let np = tables.measures.atoms;
     let at = Layout::of(tables.measures);
-    let e = picked(&at.columns, order);
-    let f = frequencies_of(tables.phonons.frequencies, picked(&g, order), 3 * np);
     order_constants(w, tables, q, order);
-    full_strengths(
-        w,
-        at.listing,
-        at.constants,
-        e,
-        at.scratch,
-        f,
-        np,
-        tables.settings.cutoff,
-    );
-    gather_sixth(out, flags, w, at.listing, order, tables.bands, np);
+    let o = Operands {
+        atoms: np,
+        constants: at.constants,
+        legs: picked(&at.columns, order),
+        scratch: at.scratch,
+        freqs: frequencies_of(tables.phonons.frequencies, picked(&g, order), 3 * np),
+        cutoff: tables.settings.cutoff,
+    };
+    full_strengths(w, at.listing, &o);
+    let listing = Listing {
+        at: at.listing,
+        bands: 3 * np,
+        order,
+    };
+    gather_sixth(out, flags, w, &listing, tables.bands);
 }
 
 // All slots 0.0, and then to each that is not flagged a sixth of its strength in each of the six orders, in turn: by its number, as the
