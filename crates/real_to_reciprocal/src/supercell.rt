@@ -47,7 +47,7 @@ pub fn later_copies<const N: usize>(s2p: &[i64]) -> [u16; N]
 }
 
 // Entry n of a table of copies among ns supercell atoms.
-fn copy_in(table: &[u16], n: usize, ns: usize) -> Option<usize>
+fn copy_in(table: &[u16; 256], n: usize, ns: usize) -> Option<usize>
     requires { n < length table.now }
     ensures { MatchOption result (ns ≤ get_or table.now n 0) (λ k. (k ≡ get_or table.now n 0) × (k < ns)) }
 {
@@ -62,8 +62,8 @@ pub struct Supercell<'a> {
     pub forces: Forces<'a>,
     pub np: usize,
     pub ns: usize,
-    pub first: &'a [u16],
-    pub later: &'a [u16],
+    pub first: &'a [u16; 256],
+    pub later: &'a [u16; 256],
     ghost shaped: { Shaped np ns (forces_of forces) },
     ghost first_are: { FirstCopies np ns forces.p2s.now forces.s2p.now first.now },
     ghost later_are: { LaterCopies ns forces.s2p.now later.now },
