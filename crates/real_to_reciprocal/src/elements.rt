@@ -98,23 +98,11 @@ fn add_held(t: &mut [f64; 54], constants: &[f64], held: Option<Block>)
     }
 }
 
-// Whether blocks are added two by two; the sums are the same either way. For a leg alone two at once took up to 5 % longer
-// than one.
-#[inline(always)]
-fn two_by_two(leg: Leg) -> bool {
-    match leg {
-        Leg::Alone => false,
-        Leg::First | Leg::Second | Leg::Third => true,
-    }
-}
-
-// Takes one more block: adds it together with the one that waits; if none does, has it wait or adds it by itself. What
-// is handed back is made anew: with `held` at the last line the averaged anchoring took a tenth longer.
+// Takes one more block: adds it together with the one that waits, or has it wait.
 #[inline(always)]
 fn take_block(
     t: &mut [f64; 54],
     constants: &[f64],
-    leg: Leg,
     held: Option<Block>,
     block: Block,
 ) -> Option<Block>
@@ -122,15 +110,13 @@ fn take_block(
     ensures { Settled constants.now t.new result
         (λ e. with_block constants.now block e (with_held constants.now held e (split t.old 0 27 e))) }
 {
-    if let Some(first) = held {
-        add_two(t, constants, first, block);
-        return None;
+    match held {
+        Some(first) => {
+            add_two(t, constants, first, block);
+            None
+        }
+        None => Some(block),
     }
-    if two_by_two(leg) {
-        return Some(block);
-    }
-    add_block(t, constants, block);
-    None
 }
 
 // What the turns of all pairs have in common: the tables, atom i and its row of force constants, and the phase factors
@@ -192,7 +178,7 @@ fn add_pair(
         base: n * 27,
         z: cmplx_scale(p, factor(pairs.leg, shortest, s)),
     };
-    take_block(t, constants, pairs.leg, held, block)
+    take_block(t, constants, held, block)
 }
 
 // The 27 sums for three atoms, real parts first. Phase factors are np * ns numbers in planes of w: those of the second

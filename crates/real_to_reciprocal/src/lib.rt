@@ -46,8 +46,10 @@ pub fn real_to_reciprocal(
         }))
         × SameOutside w.old w.new fo (region_end fo np) }
 {
-    let first: [u16; 256] = first_copies(forces.p2s, forces.s2p);
-    let later: [u16; 256] = later_copies(forces.s2p);
+    let mut first: [u16; 256] = [0; 256];
+    let mut later: [u16; 256] = [0; 256];
+    first_copies(&mut first, forces.p2s, forces.s2p);
+    later_copies(&mut later, forces.s2p);
     let cell = Supercell {
         forces: *forces,
         np,

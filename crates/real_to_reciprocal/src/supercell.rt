@@ -17,33 +17,30 @@ fn next_copy(s2p: &[i64], y: usize, from: usize) -> Option<usize>
     Some(from + n)
 }
 
-// ---- tables of copies, in which the number of supercell atoms stands for none: an Option there would take twice the room
+// ---- tables of copies, in which the number of supercell atoms stands for none: an Option there would take twice the room. They are written
+// where they lie: handed back by value they cost a small cell more than its sums.
 
 // The first copy of each atom.
-pub fn first_copies<const N: usize>(p2s: &[i64], s2p: &[i64]) -> [u16; N]
-    requires { (length p2s.now ≤ N) × (length s2p.now < 65536) }
-    ensures { FirstCopies (length p2s.now) (length s2p.now) p2s.now s2p.now result }
+pub fn first_copies(first: &mut [u16], p2s: &[i64], s2p: &[i64])
+    requires { (length p2s.now ≤ length first.old) × (length s2p.now < 65536) }
+    ensures { FirstCopies (length p2s.now) (length s2p.now) p2s.now s2p.now first.new }
 {
     // By places: a table may be longer than what is filled of it.
-    let mut first = [0; N];
     for a in 0..p2s.len() {
         let copy = next_copy(s2p, index_at(p2s, a), 0);
         first[a] = copy.unwrap_or(s2p.len()) as u16;
     }
-    first
 }
 
 // After each supercell atom, the next copy of the same atom.
-pub fn later_copies<const N: usize>(s2p: &[i64]) -> [u16; N]
-    requires { (length s2p.now ≤ N) × (length s2p.now < 65536) }
-    ensures { LaterCopies (length s2p.now) s2p.now result }
+pub fn later_copies(later: &mut [u16], s2p: &[i64])
+    requires { (length s2p.now ≤ length later.old) × (length s2p.now < 65536) }
+    ensures { LaterCopies (length s2p.now) s2p.now later.new }
 {
-    let mut later = [0; N];
     for k in 0..s2p.len() {
         let copy = next_copy(s2p, index_at(s2p, k), k + 1);
         later[k] = copy.unwrap_or(s2p.len()) as u16;
     }
-    later
 }
 
 // Entry n of a table of copies among ns supercell atoms.

@@ -7,4 +7,4 @@ use Rattle.real_to_reciprocal.specs.Copies.{FirstCopy}
 use Rattle.real_to_reciprocal.proofs.supercell.first_copies.Given as goal
 
 abbrev pub invariant-loop-a : goal.invariant-loop-a
-invariant-loop-a g l = (l.a ≤ length l.p2s) × (length l.first ≡ g.row.N) × ((b : ℕ) → b < l.a → FirstCopy l.s2p (length l.s2p) (index (int l.p2s b)) 0 (get_or l.first b 0))
+invariant-loop-a l = (l.a ≤ length l.p2s) × (length l.first ≡ length l.initial.first) × ((b : ℕ) → b < l.a → FirstCopy l.s2p (length l.s2p) (index (int l.p2s b)) 0 (get_or l.first b 0))

@@ -7,4 +7,4 @@ use Rattle.real_to_reciprocal.specs.Copies.{FirstCopy}
 use Rattle.real_to_reciprocal.proofs.supercell.later_copies.Given as goal
 
 abbrev pub invariant-loop-k : goal.invariant-loop-k
-invariant-loop-k g l = (l.k ≤ length l.s2p) × (length l.later ≡ g.row.N) × ((b : ℕ) → b < l.k → FirstCopy l.s2p (length l.s2p) (index (int l.s2p b)) (b + 1) (get_or l.later b 0))
+invariant-loop-k l = (l.k ≤ length l.s2p) × (length l.later ≡ length l.initial.later) × ((b : ℕ) → b < l.k → FirstCopy l.s2p (length l.s2p) (index (int l.s2p b)) (b + 1) (get_or l.later b 0))
