@@ -1,5 +1,5 @@
 -- The 27 numbers of a block: products with pre-factors, and the mean of three legs.
-use mathlib.Core.Path.{◌≡◌}
+use mathlib.Core.Path.{◌≡◌, ◌∙◌}
 use mathlib.Core.List.{List}
 use Prim.Native.Nat.{ℕ, ◌+◌, ◌*◌, ◌/◌, ◌%◌}
 use native.Mathlib.Omega.{arith}
@@ -18,6 +18,9 @@ use Rattle.planes.proofs.ColsLaws.{cols_step, cols_ext}
 abbrev pub mean_at : List Float → List Float → List Float → ℕ → Complex
 mean_at first second third e =
     over3 (cadd (cadd (cadd czero (split first 0 27 e)) (split second 0 27 (e % 9 / 3 * 9 + e / 9 * 3 + e % 3))) (split third 0 27 (e % 3 * 9 + e % 9 / 3 * 3 + e / 9)))
+
+pub mean_of : {t a b c a' b' c' : Complex} → t ≡ over3 (cadd (cadd (cadd czero a) b) c) → a ≡ a' → b ≡ b' → c ≡ c' → t ≡ over3 (cadd (cadd (cadd czero a') b') c')
+mean_of h ea eb ec = h ∙ rw (ea, eb, ec)
 
 -- sums times a pre-factor
 pub product_of : {t t₁ : List Float} {f : ℕ → Complex} {z y : Complex} → Cols t 27 f → WroteSplit t t₁ 0 27 27 (λ e. cmul (split t 0 27 e) z) → z ≡ y → Cols t₁ 27 (λ e. cmul (f e) y)

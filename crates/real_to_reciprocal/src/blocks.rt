@@ -25,8 +25,32 @@ fn mean(a: Complex, b: Complex, c: Complex) -> Complex
     }
 }
 
+// The mean of three numbers of t, from number e on, of `second`, from f on, and of `third`, from g on in steps of nine.
+fn average_run(
+    t: &mut [f64; 54],
+    second: &[f64; 54],
+    third: &[f64; 54],
+    e: usize,
+    f: usize,
+    g: usize,
+)
+    requires { (e ≤ 24) × (f ≤ 24) × (g < 9) }
+    ensures { WroteSplit t.old t.new e 27 3
+        (λ n. Def.over3
+        (cadd (cadd (cadd czero (split t.old 0 27 (e + n))) (split second.now 0 27 (f + n)))
+        (split third.now 0 27 (g + 9 * n)))) }
+{
+    for n in 0..3 {
+        let a = get_split(t, 0, 27, e + n);
+        let b = get_split(second, 0, 27, f + n);
+        let c = get_split(third, 0, 27, g + 9 * n);
+        put_split(t, e, 27, n, mean(a, b, c));
+    }
+}
+
 // The mean of three legs' numbers, in t. The first and the second index of the second leg are exchanged, and the
-// first and the third of the third leg.
+// first and the third of the third leg. By runs, which the compiler lays out straight: one loop over 27 numbers it does not, and
+// the averaged anchoring then took 1.18 times as long at two atoms.
 fn average(t: &mut [f64; 54], second: &[f64; 54], third: &[f64; 54])
     ensures { WroteSplit t.old t.new 0 27 27
         (λ e. Def.over3
@@ -35,11 +59,11 @@ fn average(t: &mut [f64; 54], second: &[f64; 54], third: &[f64; 54])
         (split second.now 0 27 (e % 9 / 3 * 9 + e / 9 * 3 + e % 3)))
         (split third.now 0 27 (e % 3 * 9 + e % 9 / 3 * 3 + e / 9)))) }
 {
-    change_each(t, |e, a| {
-        let b = get_split(second, 0, 27, e % 9 / 3 * 9 + e / 9 * 3 + e % 3);
-        let c = get_split(third, 0, 27, e % 3 * 9 + e % 9 / 3 * 3 + e / 9);
-        mean(a, b, c)
-    });
+    for q in 0..9 {
+        let l = q / 3;
+        let m = q % 3;
+        average_run(t, second, third, 3 * q, m * 9 + l * 3, m * 3 + l);
+    }
 }
 
 // Three numbers of t, from number e on in steps of three, at `at` in planes d apart.
@@ -97,7 +121,7 @@ pub fn store_block(w: &mut [f64], fo: usize, np: usize, atoms: Legs<usize>, t: &
 }
 
 // Writes to t the sums of one leg for three atoms, times the pre-factor of the first. Laid into its callers, so that each
-// leg has its own loop.
+// leg has its own loop. To a lent t: handed back by value, the sums of a pair took 1.2 times as long.
 #[inline(always)]
 fn leg_block(
     t: &mut [f64; 54],

@@ -215,6 +215,7 @@ pub fn real_to_reciprocal_elements(
     };
     let mut s: [f64; 54] = [0.0; 54];
     let mut held = None;
+    // Walks along links; `successors` would hand the next copy to a closure, and read no plainer.
     let mut second = cell.first_copy(atoms.leg1);
     while let Some(j) = second {
         let mut third = cell.first_copy(atoms.leg2);

@@ -1,4 +1,4 @@
-// The 27 numbers of three atoms, real parts first.
+// The 27 numbers of three atoms, real parts first: planes as those of the work buffer, so that the same words and laws speak of both.
 ghost use Rattle.std.specs.Prelude.{◌≡◌, ℕ, ◌<◌};
 ghost use Rattle.planes.specs.Split.{split, WroteSplit};
 

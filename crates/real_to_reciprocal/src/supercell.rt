@@ -17,8 +17,8 @@ fn next_copy(s2p: &[i64], y: usize, from: usize) -> Option<usize>
     Some(from + n)
 }
 
-// ---- tables of copies, in which the number of supercell atoms stands for none: an Option there would take twice the room. They are written
-// where they lie: handed back by value they cost a small cell more than its sums.
+// ---- tables of copies, in which the number of supercell atoms stands for none: an Option there would take twice the room. They are
+// written where they lie: handed back by value they are copied twice, and all that follows took up to 1.1 times as long.
 
 // The first copy of each atom.
 pub fn first_copies(first: &mut [u16], p2s: &[i64], s2p: &[i64])
@@ -53,7 +53,7 @@ fn copy_in(table: &[u16; 256], n: usize, ns: usize) -> Option<usize>
 }
 
 // The force constants of np atoms and ns supercell atoms, with the first copy of each atom, and after each supercell atom the
-// next copy of the same atom. The tables are lent: copied into the struct they cost a small cell more than its sums.
+// next copy of the same atom. The tables are lent, as arrays: as slices the sums of a pair took 1.3 times as long.
 #[derive(Clone, Copy)]
 pub struct Supercell<'a> {
     pub forces: Forces<'a>,
