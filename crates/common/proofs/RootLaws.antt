@@ -9,7 +9,9 @@ use lib.Pow.{shl-shr}
 use lib.Ieee.{nearest}
 use Rattle.phonon.specs.Root.{isqrt, next, nearest_root}
 use Rattle.common.specs.Rounded.{Rounded}
-use Rattle.common.proofs.Squares.{sq_suc}
+
+pub sq_suc : (a : ℕ) → (a + 1) * (a + 1) ≡ a * a + 2 * a + 1
+sq_suc a = mul-add (a + 1) a 1 ∙ omega (arith, add-mul a 1 a)
 
 pub sq_dbl : (a : ℕ) → (2 * a) * (2 * a) ≡ 4 * (a * a)
 sq_dbl a = mul-mul-mul_comm 2 a 2 a
@@ -48,13 +50,12 @@ rounded_unique M t u a b = go (dec_lt t u) (dec_lt u t)
     go (no f) (yes h) = absurd (apart M u t b a h)
     go (no f) (no g) = omega arith
 
-Cmp : Ordering → ℕ → ℕ → Type 0
+abbrev pub Cmp : Ordering → ℕ → ℕ → Type 0
 Cmp Ordering.lt a b = a < b
 Cmp Ordering.eq a b = a ≡ b
 Cmp Ordering.gt a b = b < a
 
-cmp : (a b : ℕ) → Cmp (compare a b) a b
-unfolding Cmp
+pub cmp : (a b : ℕ) → Cmp (compare a b) a b
 cmp a b = go (compare a b) (leb→le a b) (nleb→lt a b) (eqb→eq a b) (λ (e : a ≡ b). subst (λ (x : ℕ). T (eqb a x)) e (eqb_refl a))
   where
     go : (o : Ordering) → (T (is_le o) → a ≤ b) → (T (not (is_le o)) → b < a) → (T (compare_is_eq o) → a ≡ b) → (a ≡ b → T (compare_is_eq o)) → Cmp o a b
@@ -76,8 +77,7 @@ above_half M s h l =
     let c = sq_suc s in
     subst (Rounded M) (add-one s) (record { above = omega arith; below = omega arith })
 
-by_compare : (M s P : ℕ) (o : Ordering) → 0 < P → 0 < M → IsRoot M s → Cmp o (4 * (M * P)) ((2 * s + 1) * (2 * s + 1) * P) → Rounded M (nearest s o)
-unfolding Cmp
+pub by_compare : (M s P : ℕ) (o : Ordering) → 0 < P → 0 < M → IsRoot M s → Cmp o (4 * (M * P)) ((2 * s + 1) * (2 * s + 1) * P) → Rounded M (nearest s o)
 by_compare M s P Ordering.lt pos p h c =
     let l : 4 * M < (2 * s + 1) * (2 * s + 1) = lt_of_mul-lt-mul_right P (lt_of_le_of_lt (le_of_eq (mul_assoc 4 M P)) c) in
     not_less M s p h (omega arith)

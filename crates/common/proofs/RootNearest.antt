@@ -11,9 +11,8 @@ use lib.Ieee.Positive.{positive}
 use Rattle.phonon.specs.Root.{root, root_of, nearest_root}
 use Rattle.common.specs.Rounded.{Rounded}
 use Rattle.common.specs.Nearest.{Nearest, smallest, squares}
-use Rattle.common.proofs.RootLaws.{nearest_rounded, digits_low, digits_high, sq_dbl}
+use Rattle.common.proofs.RootLaws.{nearest_rounded, digits_low, digits_high, sq_suc, sq_dbl}
 use Rattle.common.proofs.RootFloat.{written, units_fits, in_range}
-use Rattle.common.proofs.Squares.{sq_suc}
 
 -- ---- a value of the format is m * 2 ^ a smallest values, m having at most 53 digits
 pub record Parts (y : Float) : Type 0 where
@@ -25,7 +24,7 @@ pub record Parts (y : Float) : Type 0 where
   pub some : 0 < m
   pub most : a < 2045 + 53
 
-low_is : (k : ℕ) → 2 ^ suc k ≤ 2 ^ 1074 → suc k ≤ 1074
+pub low_is : (k : ℕ) → 2 ^ suc k ≤ 2 ^ 1074 → suc k ≤ 1074
 low_is k h = go (dec_le (suc k) 1074)
   where
     go : Dec (suc k ≤ 1074) → suc k ≤ 1074
@@ -33,7 +32,7 @@ low_is k h = go (dec_le (suc k) 1074)
     go (no f) = absurd (lt_irrefl (2 ^ suc k) (lt_of_le_of_lt h (pow-lt {i = 1074} {j = suc k} (omega arith))))
 
 -- m * 2 ^ l / 2 ^ k
-shift : (m l k : ℕ) → k ≤ l → m * 1 * 2 ^ l / 2 ^ k ≡ m * 2 ^ (l - k)
+pub shift : (m l k : ℕ) → k ≤ l → m * 1 * 2 ^ l / 2 ^ k ≡ m * 2 ^ (l - k)
 shift m l k h =
     ap (λ (n : ℕ). n * 2 ^ l / 2 ^ k) (mul-one m)
     ∙ ap (λ (n : ℕ). m * 2 ^ n / 2 ^ k) (let e : l ≡ (l - k) + k = omega arith in e)
@@ -41,7 +40,7 @@ shift m l k h =
     ∙ ap (λ (n : ℕ). n / 2 ^ k) (sym (mul_assoc m (2 ^ (l - k)) (2 ^ k)))
     ∙ shl-shr (m * 2 ^ (l - k)) k
 
-raise : (m k l : ℕ) → m * 2 ^ k * 2 ^ l / 1 ≡ m * 2 ^ (k + l)
+pub raise : (m k l : ℕ) → m * 2 ^ k * 2 ^ l / 1 ≡ m * 2 ^ (k + l)
 raise m k l = div-one (m * 2 ^ k * 2 ^ l) ∙ mul_assoc m (2 ^ k) (2 ^ l) ∙ ap (λ (n : ℕ). m * n) (sym (pow-add 2 k l))
 
 small_exponent : (m k : ℕ) → suc m * 2 ^ k < 2 ^ 1024 * 1 → k < 1024
@@ -148,7 +147,7 @@ grid_cases M t j n m a b lo r hm e = go (dec_le j a)
         )
 
 -- ---- the root's digits
-record Facts (x : Float) : Type 0 where
+pub record Facts (x : Float) : Type 0 where
   pub M : ℕ
   pub t : ℕ
   pub j : ℕ
@@ -180,7 +179,7 @@ facts_of x N m b hr hs hN pm hm lb hb =
     le_of_mul-le-mul_right (le_trans (le_of_eq (sym (pow-add 2 104 (2 * j)))) (le_trans (pow_mono {i = 104 + 2 * j} {j = size N - 1} (omega arith)) (le_trans (size_reaches N (size N - 1) (omega arith)) (le_of_eq v)))) (pow_pos (2 * j)) in
     record { M = M; t = nearest_root N j; j = j; is = hr; value = hs ∙ v; low = lo; high = hi; near = subst (λ (n : ℕ). Rounded M (nearest_root n j)) (sym v) (nearest_rounded M j (omega arith) hi); reach = omega arith }
 
-facts : (x : Float) → T (fits binary64 x) → T (positive x) → Facts x
+pub facts : (x : Float) → T (fits binary64 x) → T (positive x) → Facts x
 unfolding root
 facts nan f p = absurd p
 facts (inf s) f p = absurd p
