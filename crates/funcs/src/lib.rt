@@ -1,4 +1,4 @@
-// funcs.rs: the occupation of a phonon. Beside it the exponential, the sine and the cosine, which the language lacks.
+// funcs.rs: the occupation of a phonon. Beside it document 01's exponential, sine and cosine: what the library's return is promised nowhere.
 #![tactic(auto)]
 
 ghost use Rattle.std.specs.Prelude.{◌≡◌, true, false, ◌<◌, ◌≤◌, pos, length, map};
@@ -37,6 +37,7 @@ fn power_of_two(k: u64) -> f64
 }
 
 // Neither above 709 nor below 0, and no NaN.
+#[tactic(auto, unfolding(crate::specs::Reducible::reducible))]
 fn is_reducible(x: f64) -> bool
     ensures { result ≡ reducible x }
 {
@@ -309,11 +310,7 @@ pub fn sin_cos_three(x: Legs<f64>) -> Legs<SinCos>
             leg2: turned(c.quadrant, c.rest, [p[4], p[5]]),
         };
     }
-    Legs {
-        leg0: sin_cos(x.leg0),
-        leg1: sin_cos(x.leg1),
-        leg2: sin_cos(x.leg2),
-    }
+    x.map(|y| sin_cos(y))
 }
 
 // The occupations of N frequencies, side by side.
