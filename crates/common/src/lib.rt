@@ -49,6 +49,7 @@ pub fn float_of<N: Whole>(n: N) -> f64
 }
 
 // The sum of two complex numbers.
+#[tactic(auto, unfolding(phonon::specs::Common::cadd))]
 pub fn cmplx_add(a: Complex, b: Complex) -> Complex
     ensures { result ≡ cadd a b }
 {
@@ -59,6 +60,7 @@ pub fn cmplx_add(a: Complex, b: Complex) -> Complex
 }
 
 // The product of two complex numbers.
+#[tactic(auto, unfolding(phonon::specs::Common::cmul))]
 pub fn cmplx_mul(a: Complex, b: Complex) -> Complex
     ensures { result ≡ cmul a b }
 {
@@ -69,6 +71,7 @@ pub fn cmplx_mul(a: Complex, b: Complex) -> Complex
 }
 
 // A complex number times a real one.
+#[tactic(auto, unfolding(phonon::specs::Common::scale))]
 pub fn cmplx_scale(a: Complex, s: f64) -> Complex
     ensures { result ≡ scale a s }
 {
@@ -79,6 +82,7 @@ pub fn cmplx_scale(a: Complex, s: f64) -> Complex
 }
 
 // Whether both parts are zero, of either sign.
+#[tactic(auto, unfolding(phonon::specs::Common::is_zero))]
 pub fn is_zero(a: Complex) -> bool
     ensures { result ≡ is_zero a }
 {
