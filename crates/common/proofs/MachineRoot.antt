@@ -1,8 +1,7 @@
 -- The library's root, which rounds twice the root with half a place more where it goes on, is the definition's. Assumes nothing.
-use Rattle.std.proofs.Common.{◌≡◌, ℕ, zero, suc, ◌+◌, ◌-◌, ◌*◌, ◌/◌, ◌%◌, ◌^◌, ◌<◌, ◌≤◌, Bool, true, false, cond, T, eqb, ℤ, pos, negsuc, sym, refl, ap, ◌∙◌, subst, le_trans, le_of_eq, lt_of_lt_of_le, lt_of_le_of_lt, lt_irrefl, mul-le-mul_right, zero-lt-suc, mul_assoc, mul_comm, mul-le-mul, lt_of_mul-lt-mul_right, mul-lt-mul_of_pos_right, le_of_mul-le-mul_right, pow-suc, add-mul, mul-add, arith, eqb→eq, pow_pos, pow-add}
+use Rattle.std.proofs.Common.{◌≡◌, ℕ, zero, suc, ◌+◌, ◌-◌, ◌*◌, ◌/◌, ◌%◌, ◌^◌, ◌<◌, ◌≤◌, Bool, true, false, cond, T, eqb, ℤ, pos, negsuc, sym, refl, ap, ◌∙◌, subst, le_trans, le_of_eq, lt_of_lt_of_le, lt_of_le_of_lt, lt_irrefl, lt_of_not-le, mul-le-mul_right, zero-lt-suc, mul_assoc, mul_comm, mul-le-mul, lt_of_mul-lt-mul_right, mul-lt-mul_of_pos_right, le_of_mul-le-mul_right, pow-suc, add-mul, mul-add, arith, eqb→eq, pow_pos, pow-add}
 use Prim.Native.Nat.{compare, Ordering}
 use native.Mathlib.Nat.{mul-mul-mul_comm, mul_left_comm, mul-pos, le-div_iff_mul-le, div-lt_iff_lt-mul, div-add-mod'}
-use native.Mathlib.Decide.{dec_lt}
 use lib.Dec.{lt→ltb}
 use lib.Pow.{split, shr-shr}
 use lib.Ieee.{Float, nan, inf, fin, binary64, up, down, fits, size, nearest, units, round, sqrt, root_below, root_twice}
@@ -18,11 +17,7 @@ use Rattle.common.proofs.RootFloat.{written}
 
 -- ---- squares
 less : {a b : ℕ} → a * a < b * b → a < b
-less {a} {b} h = go (dec_lt a b)
-  where
-    go : Dec (a < b) → a < b
-    go (yes l) = l
-    go (no f) = absurd (lt_irrefl (a * a) (lt_of_lt_of_le h (mul-le-mul (omega arith) (omega arith))))
+less {a} {b} h = lt_of_not-le (λ (k : b ≤ a). lt_irrefl (a * a) (lt_of_lt_of_le h (mul-le-mul k k)))
 
 -- ---- Twice the root of N = M * H * H, with 1 more where it goes on, beside M: H is twice K
 record Twice (N r T : ℕ) : Type 0 where

@@ -1,19 +1,18 @@
 -- The bit pattern of a value q * 2 ^ k in units of the smallest, where q has all 53 digits. Assumes nothing.
-use Rattle.std.proofs.Common.{◌≡◌, ℕ, suc, ◌+◌, ◌-◌, ◌*◌, ◌/◌, ◌^◌, ◌<◌, ◌≤◌, Bool, true, false, T, sym, ap, ◌∙◌, subst, true≢false, le_trans, lt_of_lt_of_le, lt_irrefl, mul-le-mul_right, mul_assoc, suc-add, mul-lt-mul_of_pos_right, pow-suc, mul_right_comm, mul-div_cancel, arith, pow_pos, pow_mono, pow-add}
+use Rattle.std.proofs.Common.{◌≡◌, ℕ, suc, ◌+◌, ◌-◌, ◌*◌, ◌/◌, ◌^◌, ◌<◌, ◌≤◌, Bool, true, false, not, T, sym, ap, ◌∙◌, subst, true≢false, le_trans, lt_of_lt_of_le, lt_irrefl, lt_of_not-le, mul-le-mul_right, mul_assoc, suc-add, mul-lt-mul_of_pos_right, pow-suc, mul_right_comm, mul-div_cancel, arith, pow_pos, pow_mono, pow-add}
 use native.Mathlib.Decide.{dec_lt}
 use lib.Pow.{shl-shr}
-use lib.Ieee.{Float, nan, inf, fin, binary64, fits, size, to_bits, of_bits, up, down}
+use lib.Ieee.{is_nan, Float, nan, inf, fin, binary64, fits, size, to_bits, of_bits, up, down}
 use lib.Ieee.Digits.{size-lt, size-le}
 use lib.Ieee.Exact.{HasValue}
 use lib.Ieee.Fits.{down_pos}
 use lib.Ieee.Bits.{of_bits-to_bits}
 
+pub reaches : (n j : ℕ) → 2 ^ j ≤ n → j < size n
+reaches n j h = lt_of_not-le (λ (f : size n ≤ j). lt_irrefl n (lt_of_lt_of_le (size-lt n) (le_trans (pow_mono {i = size n} {j = j} f) h)))
+
 pub size_is : (n j : ℕ) → 2 ^ j ≤ n → n < 2 ^ suc j → size n ≡ suc j
-size_is n j lo hi = go (dec_lt j (size n))
-  where
-    go : Dec (j < size n) → size n ≡ suc j
-    go (yes h) = omega (arith, size-le n (suc j) hi)
-    go (no f) = absurd (lt_irrefl n (lt_of_lt_of_le (size-lt n) (le_trans (pow_mono {i = size n} {j = j} (omega arith)) lo)))
+size_is n j lo hi = omega (arith, reaches n j lo, size-le n (suc j) hi)
 
 -- the number of digits of q * 2 ^ k
 pub size_shl : (q k j : ℕ) → 2 ^ j ≤ q → q < 2 ^ suc j → size (q * 2 ^ k) ≡ suc (j + k)
@@ -53,7 +52,13 @@ to_bits_value (fin false m e) q k h lo hi =
 pub of_bits_value : (v : Float) (q k : ℕ) → T (fits binary64 v) → HasValue v false (q * 2 ^ k) (2 ^ 1074) → 2 ^ 52 ≤ q → q ≤ 2 ^ 53 → of_bits binary64 (k * 2 ^ 52 + q) ≡ v
 of_bits_value v q k f h lo hi = ap (of_bits binary64) (sym (to_bits_value v q k h lo hi)) ∙ of_bits-to_bits binary64 v f
 
--- ---- the value of a pattern
+-- ---- what has a value
+pub no_nan_of : (v : Float) (s : Bool) (a c : ℕ) → HasValue v s a c → T (not (is_nan v))
+unfolding is_nan
+no_nan_of nan s a c h = absurd h
+no_nan_of (inf t) s a c h = absurd h
+no_nan_of (fin t m e) s a c h = tt
+
 pub rescaled : (v : Float) (s : Bool) (a c k : ℕ) → HasValue v s a c → HasValue v s (a * k) (c * k)
 rescaled nan s a c k h = h
 rescaled (inf t) s a c k h = h

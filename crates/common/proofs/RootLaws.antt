@@ -1,8 +1,8 @@
 -- What the definition of the root says: its digits are the whole number nearest to a root. Assumes nothing.
-use Rattle.std.proofs.Common.{◌≡◌, ℕ, zero, suc, ◌+◌, ◌*◌, ◌/◌, ◌^◌, ◌<◌, ◌≤◌, Bool, true, false, cond, not, T, eqb, leb, sym, refl, ◌∙◌, subst, le_of_eq, lt_of_lt_of_le, lt_of_le_of_lt, lt_irrefl, mul-le-mul_right, mul_assoc, add-mul, lt_of_mul-lt-mul_right, mul-le-mul_left, pow-suc, mul-add, le_of_mul-le-mul_right, add-one, arith, eqb→eq, leb→le, pow_pos, leb-false, leb-true}
+use Rattle.std.proofs.Common.{◌≡◌, ℕ, zero, suc, ◌+◌, ◌*◌, ◌/◌, ◌^◌, ◌<◌, ◌≤◌, Bool, true, false, cond, not, T, eqb, leb, sym, refl, ◌∙◌, subst, le_of_eq, lt_of_lt_of_le, lt_of_le_of_lt, lt_irrefl, lt_of_not-le, mul-le-mul_right, mul_assoc, add-mul, lt_of_mul-lt-mul_right, mul-le-mul_left, pow-suc, mul-add, le_of_mul-le-mul_right, add-one, arith, eqb→eq, leb→le, pow_pos, leb-false, leb-true}
 use Prim.Native.Nat.{compare, Ordering}
 use native.Mathlib.Nat.{mul-mul-mul_comm}
-use native.Mathlib.Decide.{dec_le, dec_lt}
+use native.Mathlib.Decide.{dec_lt}
 use lib.Dec.{nleb→lt, eqb_refl, is_le, compare_is_eq}
 use lib.Arith.{lt_of_le-ne}
 use lib.Pow.{shl-shr}
@@ -99,20 +99,18 @@ nearest_rounded M j p h =
 
 -- ---- a root of 105 or 106 digits has 53 digits
 pub digits_low : (M t : ℕ) → 2 ^ 104 ≤ M → Rounded M t → 2 ^ 52 ≤ t
-digits_low M t h r = go (dec_le (2 ^ 52) t)
-  where
-    go : Dec (2 ^ 52 ≤ t) → 2 ^ 52 ≤ t
-    go (yes l) = l
-    go (no f) =
-        let p : t * (t + 1) ≤ t * 2 ^ 52 = mul-le-mul_left t (omega arith) in
-        let y : t * (t + 1) ≡ t * t + t = omega (arith, mul-add t t 1) in
-        absurd (lt_irrefl 0 (omega arith))
+digits_low M t h r =
+    let l : 2 ^ 52 < t + 1 =
+    lt_of_not-le (λ (f : t + 1 ≤ 2 ^ 52).
+    let p : t * (t + 1) ≤ t * 2 ^ 52 = mul-le-mul_left t f in
+    let y : t * (t + 1) ≡ t * t + t = omega (arith, mul-add t t 1) in
+    lt_irrefl 0 (omega arith)) in
+    omega arith
 
 pub digits_high : (M t : ℕ) → M < 2 ^ 106 → Rounded M t → t ≤ 2 ^ 53
-digits_high M t h r = go (dec_le t (2 ^ 53))
-  where
-    go : Dec (t ≤ 2 ^ 53) → t ≤ 2 ^ 53
-    go (yes l) = l
-    go (no f) =
-        let p : (2 ^ 53 + 1) * t ≤ t * t = mul-le-mul_right t (omega arith) in
-        absurd (lt_irrefl 0 (omega arith))
+digits_high M t h r =
+    let l : t < 2 ^ 53 + 1 =
+    lt_of_not-le (λ (f : 2 ^ 53 + 1 ≤ t).
+    let p : (2 ^ 53 + 1) * t ≤ t * t = mul-le-mul_right t f in
+    lt_irrefl 0 (omega arith)) in
+    omega arith

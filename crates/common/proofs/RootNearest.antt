@@ -1,5 +1,5 @@
 -- The definition of the root is the value nearest to the exact root. Assumes nothing.
-use Rattle.std.proofs.Common.{◌≡◌, ℕ, zero, suc, ◌+◌, ◌-◌, ◌*◌, ◌/◌, ◌^◌, ◌<◌, ◌≤◌, true, false, T, pos, negsuc, sym, refl, ap, ◌∙◌, subst, le_trans, le_of_eq, lt_of_lt_of_le, lt_of_le_of_lt, lt_irrefl, mul-le-mul_right, zero-lt-suc, mul_assoc, add-mul, mul-le-mul, lt_of_mul-lt-mul_right, mul-lt-mul_of_pos_right, one-mul, pow-suc, mul-one, le_of_mul-le-mul_right, div-one, mul-div_cancel, add-one, arith, pow_pos, pow_mono, pow-add}
+use Rattle.std.proofs.Common.{◌≡◌, ℕ, zero, suc, ◌+◌, ◌-◌, ◌*◌, ◌/◌, ◌^◌, ◌<◌, ◌≤◌, true, false, T, pos, negsuc, sym, refl, ap, ◌∙◌, subst, le_trans, le_of_eq, lt_of_lt_of_le, lt_of_le_of_lt, lt_irrefl, lt_of_not-le, mul-le-mul_right, zero-lt-suc, mul_assoc, add-mul, mul-le-mul, lt_of_mul-lt-mul_right, mul-lt-mul_of_pos_right, one-mul, pow-suc, mul-one, le_of_mul-le-mul_right, div-one, mul-div_cancel, add-one, arith, pow_pos, pow_mono, pow-add}
 use native.Mathlib.Nat.{mul-mul-mul_comm}
 use native.Mathlib.Decide.{dec_lt, dec_le}
 use lib.Pow.{pow-lt, shl-shr}
@@ -11,6 +11,7 @@ use lib.Ieee.Positive.{positive}
 use Rattle.phonon.specs.Root.{root, root_of, nearest_root}
 use Rattle.common.specs.Rounded.{Rounded}
 use Rattle.common.specs.Nearest.{Nearest, smallest, squares}
+use Rattle.common.proofs.Patterns.{reaches}
 use Rattle.common.proofs.RootLaws.{nearest_rounded, digits_low, digits_high, sq_suc, sq_dbl}
 use Rattle.common.proofs.RootFloat.{written, units_fits, in_range}
 
@@ -25,11 +26,7 @@ pub record Parts (y : Float) : Type 0 where
   pub most : a < 2045 + 53
 
 pub low_is : (k : ℕ) → 2 ^ suc k ≤ 2 ^ 1074 → suc k ≤ 1074
-low_is k h = go (dec_le (suc k) 1074)
-  where
-    go : Dec (suc k ≤ 1074) → suc k ≤ 1074
-    go (yes l) = l
-    go (no f) = absurd (lt_irrefl (2 ^ suc k) (lt_of_le_of_lt h (pow-lt {i = 1074} {j = suc k} (omega arith))))
+low_is k h = lt_of_not-le (λ (f : 1074 ≤ k). lt_irrefl (2 ^ suc k) (lt_of_le_of_lt h (pow-lt {i = 1074} {j = suc k} (omega arith))))
 
 -- m * 2 ^ l / 2 ^ k
 pub shift : (m l k : ℕ) → k ≤ l → m * 1 * 2 ^ l / 2 ^ k ≡ m * 2 ^ (l - k)
@@ -44,14 +41,11 @@ pub raise : (m k l : ℕ) → m * 2 ^ k * 2 ^ l / 1 ≡ m * 2 ^ (k + l)
 raise m k l = div-one (m * 2 ^ k * 2 ^ l) ∙ mul_assoc m (2 ^ k) (2 ^ l) ∙ ap (λ (n : ℕ). m * n) (sym (pow-add 2 k l))
 
 small_exponent : (m k : ℕ) → suc m * 2 ^ k < 2 ^ 1024 * 1 → k < 1024
-small_exponent m k h = go (dec_lt k 1024)
-  where
-    go : Dec (k < 1024) → k < 1024
-    go (yes l) = l
-    go (no f) =
-        absurd (lt_irrefl (2 ^ k)
-        (lt_of_le_of_lt (le_trans (le_of_eq (sym (one-mul (2 ^ k)))) (mul-le-mul_right (2 ^ k) (zero-lt-suc m)))
-        (lt_of_lt_of_le h (pow_mono {i = 1024} {j = k} (omega arith)))))
+small_exponent m k h =
+    lt_of_not-le (λ (f : 1024 ≤ k).
+    lt_irrefl (2 ^ k)
+    (lt_of_le_of_lt (le_trans (le_of_eq (sym (one-mul (2 ^ k)))) (mul-le-mul_right (2 ^ k) (zero-lt-suc m)))
+    (lt_of_lt_of_le h (pow_mono {i = 1024} {j = k} f))))
 
 pub parts : (y : Float) → T (fits binary64 y) → T (positive y) → Parts y
 parts nan f p = absurd p
@@ -157,13 +151,6 @@ pub record Facts (x : Float) : Type 0 where
   pub high : M < 2 ^ 106
   pub near : Rounded M t
   pub reach : j ≤ 2000
-
-reaches : (n j : ℕ) → 2 ^ j ≤ n → j < size n
-reaches n j h = go (dec_lt j (size n))
-  where
-    go : Dec (j < size n) → j < size n
-    go (yes l) = l
-    go (no f) = absurd (lt_irrefl n (lt_of_lt_of_le (size-lt n) (le_trans (pow_mono {i = size n} {j = j} (omega arith)) h)))
 
 facts_of : (x : Float) (N m b : ℕ) → root x ≡ root_of N → squares x ≡ N → N ≡ m * 2 ^ b → 0 < m → m < 2 ^ 53 → 1074 ≤ b → b < 3180 → Facts x
 unfolding root_of
