@@ -10,17 +10,17 @@ pub fn f64_of_bits(w: u64) -> f64
     let field = w % 0x8000_0000_0000_0000 / 0x10_0000_0000_0000;
     let digits = w % 0x10_0000_0000_0000;
     if (field == 2047) & (digits != 0) {
-        return 0.0 / 0.0;
+        return f64::NAN;
     }
     f64::from_bits(w)
 }
 
-// The bits of a number. Only a NaN differs from itself.
+// The bits of a number.
 pub fn bits_of(x: f64) -> u64
     ensures { (result ≡ to_bits binary64 x) × (x ≡ bits result) }
 {
-    if x == x {
-        return f64::to_bits(x);
+    if x.is_nan() {
+        return 0x7ff8_0000_0000_0000;
     }
-    0x7ff8_0000_0000_0000
+    x.to_bits()
 }

@@ -91,9 +91,9 @@ pub fn exp(x: f64) -> f64
         return p[0] * a.power;
     }
     if x > 709.0 {
-        return 1.0 / 0.0;
+        return f64::INFINITY;
     }
-    0.0 / 0.0
+    f64::NAN
 }
 
 // The exponentials of N numbers, side by side. It is laid into its callers, so that the numbers come in registers: two of them take 38 ns
@@ -166,7 +166,7 @@ struct Floored {
 }
 
 // Added to SHIFT, y is rounded to one of the two whole numbers around it; where that is the upper one, the floor is one less.
-// SHIFT is a multiple of 4, so the last digits of the sum are the number's mod 4.
+// SHIFT is a multiple of 4, so the last digits of the sum are the number's mod 4. The library's floor keeps the sign of -0.0, and tells no quadrant.
 fn floor_parts(y: f64) -> Floored
     requires { Within 1048577 y }
     ensures { (result.whole ≡ float (Trig.floor y)) × (result.quadrant ≡ Trig.quadrant (Trig.floor y)) }
@@ -250,8 +250,8 @@ pub fn sin_cos(x: f64) -> SinCos
         return turned(a.quadrant, a.rest, both_series(a.rest * a.rest));
     }
     SinCos {
-        sin: 0.0 / 0.0,
-        cos: 0.0 / 0.0,
+        sin: f64::NAN,
+        cos: f64::NAN,
     }
 }
 

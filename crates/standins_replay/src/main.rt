@@ -137,8 +137,8 @@ fn counted(list: &[u8]) -> Counts {
     counts
 }
 
-// Reads until buf is full, the input ends or a read fails, and returns how many bytes it put at the start of buf. The library's
-// methods that read so ask for memory.
+// Reads until buf is full, the input ends or a read fails, and returns how many bytes it put at the start of buf. An interrupted read
+// ends the input, where the library's copy would try it again.
 fn read_full<R: Read>(input: &mut R, buf: &mut [u8]) -> usize
     ensures { result ≤ length buf.new }
 {
