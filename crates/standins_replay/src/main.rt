@@ -18,7 +18,7 @@ fn input_buffer() -> [u8; 98304]
     [0; 98304]
 }
 
-// The value of a hexadecimal digit.
+// The value of a hexadecimal digit. The library's from_str_radix takes capitals and a sign as well, which no line here may have.
 fn digit(b: u8) -> Option<u64>
     ensures { IfSome result (λ d. d < 16) }
 {
