@@ -1,7 +1,7 @@
 // funcs.rs: the occupation of a phonon. Beside it document 01's exponential, sine and cosine: what the library's return is promised nowhere.
 #![tactic(auto)]
 
-ghost use Rattle.std.specs.Prelude.{◌≡◌, true, false, ◌<◌, ◌≤◌, pos, length, map};
+ghost use Rattle.std.specs.Prelude.{◌≡◌, true, false, ◌<◌, ◌≤◌, pos, map};
 ghost use mathlib.Core.List.{[], ◌∷◌, foldl};
 ghost use Rattle.std.specs.Float.{fin};
 ghost use Rattle.phonon.specs.Number.{◌⊖◌, ◌⊗◌, ◌⊘◌, f1, at, float, whole};
@@ -261,7 +261,6 @@ pub fn sin_cos(x: f64) -> SinCos
 // Both series of three numbers, the sine's and then the cosine's of each. The divisors are lent: a constant array that is read in
 // a loop is laid out anew in every turn.
 fn three_series(x: f64, y: f64, z: f64, sines: &[f64; 9], cosines: &[f64; 9]) -> [f64; 6]
-    requires { (length sines.now ≡ 9) × (length cosines.now ≡ 9) }
     ensures { result ≡ foldl (λ p d. f1 ⊖ p ⊗ (x ⊘ d)) f1 sines.now
         ∷ foldl (λ p d. f1 ⊖ p ⊗ (x ⊘ d)) f1 cosines.now
         ∷ foldl (λ p d. f1 ⊖ p ⊗ (y ⊘ d)) f1 sines.now
