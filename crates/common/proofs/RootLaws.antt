@@ -1,15 +1,17 @@
 -- What the definition of the root says: its digits are the whole number nearest to a root. Assumes nothing.
-use Rattle.std.proofs.Common.{◌≡◌, ℕ, zero, suc, ◌+◌, ◌*◌, ◌/◌, ◌^◌, ◌<◌, ◌≤◌, Bool, true, false, cond, not, T, eqb, leb, sym, refl, ◌∙◌, subst, le_of_eq, lt_of_lt_of_le, lt_of_le_of_lt, lt_irrefl, mul-le-mul_right, mul_assoc, add-mul, lt_of_mul-lt-mul_right, mul-le-mul_left, pow-suc, mul-add, le_of_mul-le-mul_right, add-one, arith, eqb→eq, leb→le, pow_pos, leb-false, leb-true}
+use Rattle.std.proofs.Common.{◌≡◌, ℕ, zero, suc, ◌+◌, ◌*◌, ◌/◌, ◌^◌, ◌<◌, ◌≤◌, Bool, true, false, cond, not, T, eqb, leb, sym, refl, ◌∙◌, subst, le_of_eq, lt_of_lt_of_le, lt_of_le_of_lt, lt_irrefl, lt_of_not-le, mul-le-mul_right, mul_assoc, add-mul, lt_of_mul-lt-mul_right, mul-le-mul_left, pow-suc, mul-add, le_of_mul-le-mul_right, add-one, arith, eqb→eq, leb→le, pow_pos, leb-false, leb-true}
 use Prim.Native.Nat.{compare, Ordering}
 use native.Mathlib.Nat.{mul-mul-mul_comm}
-use native.Mathlib.Decide.{dec_le, dec_lt}
+use native.Mathlib.Decide.{dec_lt}
 use lib.Dec.{nleb→lt, eqb_refl, is_le, compare_is_eq}
 use lib.Arith.{lt_of_le-ne}
 use lib.Pow.{shl-shr}
 use lib.Ieee.{nearest}
 use Rattle.phonon.specs.Root.{isqrt, next, nearest_root}
 use Rattle.common.specs.Rounded.{Rounded}
-use Rattle.common.proofs.Squares.{sq_suc}
+
+pub sq_suc : (a : ℕ) → (a + 1) * (a + 1) ≡ a * a + 2 * a + 1
+sq_suc a = mul-add (a + 1) a 1 ∙ omega (arith, add-mul a 1 a)
 
 pub sq_dbl : (a : ℕ) → (2 * a) * (2 * a) ≡ 4 * (a * a)
 sq_dbl a = mul-mul-mul_comm 2 a 2 a
@@ -48,13 +50,12 @@ rounded_unique M t u a b = go (dec_lt t u) (dec_lt u t)
     go (no f) (yes h) = absurd (apart M u t b a h)
     go (no f) (no g) = omega arith
 
-Cmp : Ordering → ℕ → ℕ → Type 0
+abbrev pub Cmp : Ordering → ℕ → ℕ → Type 0
 Cmp Ordering.lt a b = a < b
 Cmp Ordering.eq a b = a ≡ b
 Cmp Ordering.gt a b = b < a
 
-cmp : (a b : ℕ) → Cmp (compare a b) a b
-unfolding Cmp
+pub cmp : (a b : ℕ) → Cmp (compare a b) a b
 cmp a b = go (compare a b) (leb→le a b) (nleb→lt a b) (eqb→eq a b) (λ (e : a ≡ b). subst (λ (x : ℕ). T (eqb a x)) e (eqb_refl a))
   where
     go : (o : Ordering) → (T (is_le o) → a ≤ b) → (T (not (is_le o)) → b < a) → (T (compare_is_eq o) → a ≡ b) → (a ≡ b → T (compare_is_eq o)) → Cmp o a b
@@ -76,8 +77,7 @@ above_half M s h l =
     let c = sq_suc s in
     subst (Rounded M) (add-one s) (record { above = omega arith; below = omega arith })
 
-by_compare : (M s P : ℕ) (o : Ordering) → 0 < P → 0 < M → IsRoot M s → Cmp o (4 * (M * P)) ((2 * s + 1) * (2 * s + 1) * P) → Rounded M (nearest s o)
-unfolding Cmp
+pub by_compare : (M s P : ℕ) (o : Ordering) → 0 < P → 0 < M → IsRoot M s → Cmp o (4 * (M * P)) ((2 * s + 1) * (2 * s + 1) * P) → Rounded M (nearest s o)
 by_compare M s P Ordering.lt pos p h c =
     let l : 4 * M < (2 * s + 1) * (2 * s + 1) = lt_of_mul-lt-mul_right P (lt_of_le_of_lt (le_of_eq (mul_assoc 4 M P)) c) in
     not_less M s p h (omega arith)
@@ -99,20 +99,18 @@ nearest_rounded M j p h =
 
 -- ---- a root of 105 or 106 digits has 53 digits
 pub digits_low : (M t : ℕ) → 2 ^ 104 ≤ M → Rounded M t → 2 ^ 52 ≤ t
-digits_low M t h r = go (dec_le (2 ^ 52) t)
-  where
-    go : Dec (2 ^ 52 ≤ t) → 2 ^ 52 ≤ t
-    go (yes l) = l
-    go (no f) =
-        let p : t * (t + 1) ≤ t * 2 ^ 52 = mul-le-mul_left t (omega arith) in
-        let y : t * (t + 1) ≡ t * t + t = omega (arith, mul-add t t 1) in
-        absurd (lt_irrefl 0 (omega arith))
+digits_low M t h r =
+    let l : 2 ^ 52 < t + 1 =
+    lt_of_not-le (λ (f : t + 1 ≤ 2 ^ 52).
+    let p : t * (t + 1) ≤ t * 2 ^ 52 = mul-le-mul_left t f in
+    let y : t * (t + 1) ≡ t * t + t = omega (arith, mul-add t t 1) in
+    lt_irrefl 0 (omega arith)) in
+    omega arith
 
 pub digits_high : (M t : ℕ) → M < 2 ^ 106 → Rounded M t → t ≤ 2 ^ 53
-digits_high M t h r = go (dec_le t (2 ^ 53))
-  where
-    go : Dec (t ≤ 2 ^ 53) → t ≤ 2 ^ 53
-    go (yes l) = l
-    go (no f) =
-        let p : (2 ^ 53 + 1) * t ≤ t * t = mul-le-mul_right t (omega arith) in
-        absurd (lt_irrefl 0 (omega arith))
+digits_high M t h r =
+    let l : t < 2 ^ 53 + 1 =
+    lt_of_not-le (λ (f : 2 ^ 53 + 1 ≤ t).
+    let p : (2 ^ 53 + 1) * t ≤ t * t = mul-le-mul_right t f in
+    lt_irrefl 0 (omega arith)) in
+    omega arith

@@ -1,5 +1,5 @@
 -- The definition of the root is the value nearest to the exact root. Assumes nothing.
-use Rattle.std.proofs.Common.{◌≡◌, ℕ, zero, suc, ◌+◌, ◌-◌, ◌*◌, ◌/◌, ◌^◌, ◌<◌, ◌≤◌, true, false, T, pos, negsuc, sym, refl, ap, ◌∙◌, subst, le_trans, le_of_eq, lt_of_lt_of_le, lt_of_le_of_lt, lt_irrefl, mul-le-mul_right, zero-lt-suc, mul_assoc, add-mul, mul-le-mul, lt_of_mul-lt-mul_right, mul-lt-mul_of_pos_right, one-mul, pow-suc, mul-one, le_of_mul-le-mul_right, div-one, mul-div_cancel, add-one, arith, pow_pos, pow_mono, pow-add}
+use Rattle.std.proofs.Common.{◌≡◌, ℕ, zero, suc, ◌+◌, ◌-◌, ◌*◌, ◌/◌, ◌^◌, ◌<◌, ◌≤◌, true, false, T, pos, negsuc, sym, refl, ap, ◌∙◌, subst, le_trans, le_of_eq, lt_of_lt_of_le, lt_of_le_of_lt, lt_irrefl, lt_of_not-le, mul-le-mul_right, zero-lt-suc, mul_assoc, add-mul, mul-le-mul, lt_of_mul-lt-mul_right, mul-lt-mul_of_pos_right, one-mul, pow-suc, mul-one, le_of_mul-le-mul_right, div-one, mul-div_cancel, add-one, arith, pow_pos, pow_mono, pow-add}
 use native.Mathlib.Nat.{mul-mul-mul_comm}
 use native.Mathlib.Decide.{dec_lt, dec_le}
 use lib.Pow.{pow-lt, shl-shr}
@@ -11,9 +11,9 @@ use lib.Ieee.Positive.{positive}
 use Rattle.phonon.specs.Root.{root, root_of, nearest_root}
 use Rattle.common.specs.Rounded.{Rounded}
 use Rattle.common.specs.Nearest.{Nearest, smallest, squares}
-use Rattle.common.proofs.RootLaws.{nearest_rounded, digits_low, digits_high, sq_dbl}
+use Rattle.common.proofs.Patterns.{reaches}
+use Rattle.common.proofs.RootLaws.{nearest_rounded, digits_low, digits_high, sq_suc, sq_dbl}
 use Rattle.common.proofs.RootFloat.{written, units_fits, in_range}
-use Rattle.common.proofs.Squares.{sq_suc}
 
 -- ---- a value of the format is m * 2 ^ a smallest values, m having at most 53 digits
 pub record Parts (y : Float) : Type 0 where
@@ -25,15 +25,11 @@ pub record Parts (y : Float) : Type 0 where
   pub some : 0 < m
   pub most : a < 2045 + 53
 
-low_is : (k : ℕ) → 2 ^ suc k ≤ 2 ^ 1074 → suc k ≤ 1074
-low_is k h = go (dec_le (suc k) 1074)
-  where
-    go : Dec (suc k ≤ 1074) → suc k ≤ 1074
-    go (yes l) = l
-    go (no f) = absurd (lt_irrefl (2 ^ suc k) (lt_of_le_of_lt h (pow-lt {i = 1074} {j = suc k} (omega arith))))
+pub low_is : (k : ℕ) → 2 ^ suc k ≤ 2 ^ 1074 → suc k ≤ 1074
+low_is k h = lt_of_not-le (λ (f : 1074 ≤ k). lt_irrefl (2 ^ suc k) (lt_of_le_of_lt h (pow-lt {i = 1074} {j = suc k} (omega arith))))
 
 -- m * 2 ^ l / 2 ^ k
-shift : (m l k : ℕ) → k ≤ l → m * 1 * 2 ^ l / 2 ^ k ≡ m * 2 ^ (l - k)
+pub shift : (m l k : ℕ) → k ≤ l → m * 1 * 2 ^ l / 2 ^ k ≡ m * 2 ^ (l - k)
 shift m l k h =
     ap (λ (n : ℕ). n * 2 ^ l / 2 ^ k) (mul-one m)
     ∙ ap (λ (n : ℕ). m * 2 ^ n / 2 ^ k) (let e : l ≡ (l - k) + k = omega arith in e)
@@ -41,18 +37,15 @@ shift m l k h =
     ∙ ap (λ (n : ℕ). n / 2 ^ k) (sym (mul_assoc m (2 ^ (l - k)) (2 ^ k)))
     ∙ shl-shr (m * 2 ^ (l - k)) k
 
-raise : (m k l : ℕ) → m * 2 ^ k * 2 ^ l / 1 ≡ m * 2 ^ (k + l)
+pub raise : (m k l : ℕ) → m * 2 ^ k * 2 ^ l / 1 ≡ m * 2 ^ (k + l)
 raise m k l = div-one (m * 2 ^ k * 2 ^ l) ∙ mul_assoc m (2 ^ k) (2 ^ l) ∙ ap (λ (n : ℕ). m * n) (sym (pow-add 2 k l))
 
 small_exponent : (m k : ℕ) → suc m * 2 ^ k < 2 ^ 1024 * 1 → k < 1024
-small_exponent m k h = go (dec_lt k 1024)
-  where
-    go : Dec (k < 1024) → k < 1024
-    go (yes l) = l
-    go (no f) =
-        absurd (lt_irrefl (2 ^ k)
-        (lt_of_le_of_lt (le_trans (le_of_eq (sym (one-mul (2 ^ k)))) (mul-le-mul_right (2 ^ k) (zero-lt-suc m)))
-        (lt_of_lt_of_le h (pow_mono {i = 1024} {j = k} (omega arith)))))
+small_exponent m k h =
+    lt_of_not-le (λ (f : 1024 ≤ k).
+    lt_irrefl (2 ^ k)
+    (lt_of_le_of_lt (le_trans (le_of_eq (sym (one-mul (2 ^ k)))) (mul-le-mul_right (2 ^ k) (zero-lt-suc m)))
+    (lt_of_lt_of_le h (pow_mono {i = 1024} {j = k} f))))
 
 pub parts : (y : Float) → T (fits binary64 y) → T (positive y) → Parts y
 parts nan f p = absurd p
@@ -148,7 +141,7 @@ grid_cases M t j n m a b lo r hm e = go (dec_le j a)
         )
 
 -- ---- the root's digits
-record Facts (x : Float) : Type 0 where
+pub record Facts (x : Float) : Type 0 where
   pub M : ℕ
   pub t : ℕ
   pub j : ℕ
@@ -158,13 +151,6 @@ record Facts (x : Float) : Type 0 where
   pub high : M < 2 ^ 106
   pub near : Rounded M t
   pub reach : j ≤ 2000
-
-reaches : (n j : ℕ) → 2 ^ j ≤ n → j < size n
-reaches n j h = go (dec_lt j (size n))
-  where
-    go : Dec (j < size n) → j < size n
-    go (yes l) = l
-    go (no f) = absurd (lt_irrefl n (lt_of_lt_of_le (size-lt n) (le_trans (pow_mono {i = size n} {j = j} (omega arith)) h)))
 
 facts_of : (x : Float) (N m b : ℕ) → root x ≡ root_of N → squares x ≡ N → N ≡ m * 2 ^ b → 0 < m → m < 2 ^ 53 → 1074 ≤ b → b < 3180 → Facts x
 unfolding root_of
@@ -180,7 +166,7 @@ facts_of x N m b hr hs hN pm hm lb hb =
     le_of_mul-le-mul_right (le_trans (le_of_eq (sym (pow-add 2 104 (2 * j)))) (le_trans (pow_mono {i = 104 + 2 * j} {j = size N - 1} (omega arith)) (le_trans (size_reaches N (size N - 1) (omega arith)) (le_of_eq v)))) (pow_pos (2 * j)) in
     record { M = M; t = nearest_root N j; j = j; is = hr; value = hs ∙ v; low = lo; high = hi; near = subst (λ (n : ℕ). Rounded M (nearest_root n j)) (sym v) (nearest_rounded M j (omega arith) hi); reach = omega arith }
 
-facts : (x : Float) → T (fits binary64 x) → T (positive x) → Facts x
+pub facts : (x : Float) → T (fits binary64 x) → T (positive x) → Facts x
 unfolding root
 facts nan f p = absurd p
 facts (inf s) f p = absurd p

@@ -3,24 +3,18 @@ ghost use Rattle.std.specs.Prelude.{◌≡◌, to_bits};
 ghost use Rattle.std.specs.Float.{binary64};
 ghost use Rattle.phonon.specs.Number.{bits};
 
-// The number that the bits denote. A pattern of a NaN is no argument of from_bits.
+use std::num::{f64_from_bits_with_nan, f64_to_bits_with_nan};
+
+// The number that the bits denote.
 pub fn f64_of_bits(w: u64) -> f64
     ensures { result ≡ bits w }
 {
-    let field = w % 0x8000_0000_0000_0000 / 0x10_0000_0000_0000;
-    let digits = w % 0x10_0000_0000_0000;
-    if (field == 2047) & (digits != 0) {
-        return 0.0 / 0.0;
-    }
-    f64::from_bits(w)
+    f64_from_bits_with_nan(w)
 }
 
-// The bits of a number. Only a NaN differs from itself.
+// The bits of a number.
 pub fn bits_of(x: f64) -> u64
     ensures { (result ≡ to_bits binary64 x) × (x ≡ bits result) }
 {
-    if x == x {
-        return f64::to_bits(x);
-    }
-    0x7ff8_0000_0000_0000
+    f64_to_bits_with_nan(x)
 }

@@ -1,15 +1,17 @@
 -- What a comparison of two f64 says of their magnitudes, each m * 2 ^ e a fraction m * up e / down e. Assumes nothing.
-use mathlib.Core.Path.{◌≡◌, refl, ap, ◌∙◌}
-use mathlib.Core.Bool.{Bool, true, false, ◌||◌, ◌&&◌, beq, cond, true≢false}
+use mathlib.Core.Path.{◌≡◌, ap, ◌∙◌}
+use mathlib.Core.Bool.{Bool, true, false, ◌||◌, ◌&&◌, beq}
 use Prim.Native.Nat.{ℕ, ◌*◌, ◌≤◌, ◌<◌}
 use native.Mathlib.Decide.{dec_lt}
 use native.Mathlib.Omega.{arith}
 use lib.IntN.{ℤ, pos}
 use lib.Dec.{T, ltb, eqb, eqb→eq}
 use borrow.Author.Tests.{le-ltb, lt-ltb, eq-eqb}
-use lib.Ieee.{Float, fin, up, down, lt, le, eq, of_bits}
+use lib.Ieee.{fin, up, down, lt, le, eq, of_bits}
 use lib.Ieee.Fits.{and_l}
 use Rattle.phonon.specs.Number.{f0}
+-- the second of two, where a test fails
+pub use Rattle.std.proofs.lemmas.Bool.{cond-false as pick_no}
 
 le_holds : (a b : ℕ) → a ≤ b → (ltb a b || (eqb a b && true)) ≡ true
 le_holds a b h = go (dec_lt a b)
@@ -29,8 +31,3 @@ unfolding le lt eq
 negative_zero m e l =
     let z : 0 * up (pos 0) * down e ≡ m * up e * down (pos 0) = eqb→eq _ _ (and_l (eqb (0 * up (pos 0) * down e) (m * up e * down (pos 0))) (beq false true || eqb (0 * up (pos 0) * down e) 0) l) in
     omega arith
-
--- the second of two, where a test fails
-pub pick_no : (b : Bool) (x y : Float) → b ≡ false → cond b x y ≡ y
-pick_no true x y h = absurd (true≢false h)
-pick_no false x y h = refl

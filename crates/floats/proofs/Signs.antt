@@ -5,8 +5,10 @@ use mathlib.Core.Bool.{Bool, true, false, not, ◌||◌, beq, cond, true≢false
 use native.Mathlib.Omega.{arith}
 use native.Mathlib.Nat.{zero-mul}
 use native.Mathlib.Decide.{dec_lt}
-use lib.Dec.{T, ltb, eqb, ltb→lt, lt→ltb, nltb→le}
+use lib.Dec.{T, ltb, eqb, ltb→lt, nltb→le}
 use lib.Ieee.{Float, nan, inf, fin, binary64, up, down, round, sum, add, mul, div, below, level, lt, le, eq, of_bits}
+use borrow.Author.Tests.{lt-ltb}
+use Rattle.std.proofs.lemmas.Bool.{or_left, or_right}
 use Rattle.phonon.specs.Number.{◌⊕◌, ◌⊗◌, ◌⊘◌, f0, fold}
 use Rattle.phonon.specs.Tests.{sign_bit, finite}
 use Rattle.phonon.proofs.Order.{is_false, level_zero}
@@ -107,26 +109,18 @@ sign_positive (inf false) p = refl
 sign_positive (fin true m e) p = absurd (true≢false (sym p))
 sign_positive (fin false m e) p = refl
 
-either_l : (a b : Bool) → T a → (a || b) ≡ true
-either_l true b t = refl
-either_l false b t = absurd t
-
-either_r : (a b : Bool) → b ≡ true → (a || b) ≡ true
-either_r true b e = refl
-either_r false b e = e
-
 -- a negative number, or a zero, is at or below one that is not less than zero
 at_or_below : (t : Bool) (a b : ℕ) → (T t → b ≡ 0) → (below true a t b || level true a t b) ≡ true
 at_or_below false a b z = go (dec_lt 0 (a + b))
   where
     go : Dec (0 < a + b) → (below true a false b || level true a false b) ≡ true
-    go (yes h) = either_l (ltb 0 (a + b)) (level true a false b) (lt→ltb 0 (a + b) h)
-    go (no h) = either_r (ltb 0 (a + b)) (level true a false b) (level_zero true false a b (omega arith) (omega arith))
+    go (yes h) = or_left (ltb 0 (a + b)) (level true a false b) (lt-ltb 0 (a + b) h)
+    go (no h) = or_right (ltb 0 (a + b)) (level true a false b) (level_zero true false a b (omega arith) (omega arith))
 at_or_below true a b z = go (dec_lt 0 a) (z tt)
   where
     go : Dec (0 < a) → b ≡ 0 → (below true a true b || level true a true b) ≡ true
-    go (yes h) e = either_l (ltb b a) (level true a true b) (lt→ltb b a (omega arith))
-    go (no h) e = either_r (ltb b a) (level true a true b) (level_zero true true a b (omega arith) e)
+    go (yes h) e = or_left (ltb b a) (level true a true b) (lt-ltb b a (omega arith))
+    go (no h) e = or_right (ltb b a) (level true a true b) (level_zero true true a b (omega arith) e)
 
 -- above a finite number that is not less than zero, or a NaN
 pub sign_above : (c f : Float) → finite c ≡ true → lt c f0 ≡ false → le f c ≡ false → sign_bit f ≡ false

@@ -1,20 +1,21 @@
 -- A sum of two numbers without sign is above zero exactly if one of them is. Assumes nothing.
 use mathlib.Core.Path.{◌≡◌, refl, sym, ap, ◌∙◌}
-use mathlib.Core.Bool.{Bool, true, false, not, ◌||◌, ◌&&◌}
+use mathlib.Core.Bool.{or-true, Bool, true, false, not, ◌||◌, ◌&&◌}
 use Prim.Native.Nat.{ℕ, zero, suc, ◌+◌, ◌*◌, ◌<◌, ◌≤◌}
-use native.Mathlib.Nat.{lt_irrefl, mul-pos, mul_comm, mul_assoc, add-mul, zero-mul, zero-lt-suc}
+use native.Mathlib.Nat.{lt_irrefl, mul-pos, mul_assoc, add-mul, zero-mul, zero-lt-suc}
 use native.Mathlib.Omega.{arith}
 use lib.IntN.{ℤ, pos}
 use lib.Dec.{T, ltb, eqb, lit<}
 use borrow.Author.Tests.{lt-ltb, le-ltb, ne_eqb}
-use lib.Ieee.{Float, nan, inf, fin, binary64, up, down, fits, round, sum, add, lt, le, eq, of_bits}
+use lib.Ieee.{Float, nan, inf, fin, binary64, is_nan, up, down, fits, round, sum, add, lt, le, eq, of_bits}
 use lib.Ieee.Fits.{down_pos, up_pos}
 use lib.Ieee.Scale.{round_same}
 use Rattle.phonon.specs.Number.{◌⊕◌, f0}
+use Rattle.phonon.specs.Tests.{sign_bit}
 use Rattle.phonon.proofs.Order.{at_most, level_zero}
 use Rattle.floats.specs.Sign.{Unsigned}
 use Rattle.floats.proofs.Unsigned.{unsigned_add}
-use Rattle.floats.proofs.Least.{le_round}
+use Rattle.floats.proofs.Least.{le_round, add_least}
 
 -- above zero, of a finite number
 above : (m : ℕ) (e : ℤ) → lt f0 (fin false (suc m) e) ≡ true
@@ -54,14 +55,8 @@ zero_sum e d =
 
 -- neither of two finite ones is larger
 left_least : (m : ℕ) (e : ℤ) (n : ℕ) (d : ℤ) → T (fits binary64 (fin false m e)) → T (le (fin false m e) (fin false m e ⊕ fin false n d))
-unfolding add sum
-left_least m e n d f = le_round m e (m * up e * down d + n * up d * down e) (down e * down d) f (mul-pos (down_pos e) (down_pos d)) (more (m * up e) (n * up d * down e) (down e) (down d))
-  where
-    more : (a b u v : ℕ) → a * (u * v) ≤ (a * v + b) * u
-    more a b u v =
-        let g : a * (u * v) ≡ a * v * u = ap (λ (x : ℕ). a * x) (mul_comm u v) ∙ sym (mul_assoc a v u) in
-        let h : (a * v + b) * u ≡ a * v * u + b * u = add-mul (a * v) b u in
-        omega arith
+unfolding is_nan sign_bit
+left_least m e n d f = add_least (fin false m e) (fin false n d) f refl refl refl refl
 
 right_least : (m : ℕ) (e : ℤ) (n : ℕ) (d : ℤ) → T (fits binary64 (fin false n d)) → T (le (fin false n d) (fin false m e ⊕ fin false n d))
 unfolding add sum
@@ -78,10 +73,6 @@ both_above zero e zero d f g = zero_sum e d ∙ sym (rw (not_above e, not_above 
 both_above (suc m) e n d f g = above_le m e (fin false (suc m) e ⊕ fin false n d) (unsigned_add (fin false (suc m) e) (fin false n d) tt tt) (left_least (suc m) e n d f) ∙ sym (rw (above m e) refl)
 both_above zero e (suc n) d f g = above_le n d (fin false 0 e ⊕ fin false (suc n) d) (unsigned_add (fin false 0 e) (fin false (suc n) d) tt tt) (right_least 0 e (suc n) d g) ∙ sym (rw (not_above e, above n d) refl)
 
-or_true : (b : Bool) → (b || true) ≡ true
-or_true true = refl
-or_true false = refl
-
 pub sum_above : (x y : Float) → T (fits binary64 x) → T (fits binary64 y) → Unsigned x → Unsigned y → lt f0 (x ⊕ y) ≡ (lt f0 x || lt f0 y)
 unfolding add
 sum_above nan y f g p q = absurd p
@@ -93,7 +84,7 @@ sum_above (inf false) (fin t n d) f g p q = unfold lt of_bits in refl
 sum_above (fin true m e) y f g p q = absurd p
 sum_above (fin false m e) nan f g p q = absurd q
 sum_above (fin false m e) (inf true) f g p q = absurd q
-sum_above (fin false m e) (inf false) f g p q = unfold lt of_bits in sym (or_true (ltb (0 * 1 * down e) (m * up e * 1)))
+sum_above (fin false m e) (inf false) f g p q = unfold lt of_bits in sym (or-true (ltb (0 * 1 * down e) (m * up e * 1)))
 sum_above (fin false m e) (fin true n d) f g p q = absurd q
 sum_above (fin false m e) (fin false n d) f g p q = both_above m e n d f g
 

@@ -12,7 +12,7 @@ use lib.Ieee.Exact.{HasValue}
 use lib.Ieee.Back.{round_whole}
 use lib.Ieee.Fits.{down_pos}
 use lib.Ieee.Scale.{round_same}
-use Rattle.common.proofs.Patterns.{to_bits_value, rescaled}
+use Rattle.common.proofs.Patterns.{to_bits_value, rescaled, no_nan_of}
 use Rattle.phonon.specs.Number.{◌⊕◌, bits, f0, whole}
 use Rattle.phonon.specs.Exp.{count}
 use Rattle.phonon.specs.Trig.{floor}
@@ -72,12 +72,6 @@ sum_whole (fin false n d) k v h =
     (sym (round_same binary64 false (n * up d * 1 + 1 * 2 ^ 52 * down d) (down d * 1) (2 ^ 52 + k) 1 (mul-pos (down_pos d) (lit< tt)) (lit< tt) (omega (arith, e, add-mul (2 ^ 52) k (down d)))))
     (round_whole binary64 false (2 ^ 52 + k) (omega arith))
 
-no_nan : (t : Float) (k : ℕ) → HasValue t false k 1 → T (not (is_nan t))
-unfolding is_nan
-no_nan nan k h = absurd h
-no_nan (inf s) k h = absurd h
-no_nan (fin s m e) k h = tt
-
 -- what the code reads off it
 pub record Counted (k : ℕ) (t : Float) : Type 0 where
   pub number : T (not (is_nan t))
@@ -90,4 +84,4 @@ counted k h =
     let v = sum_whole (round binary64 false k 1) k (round_whole binary64 false k (omega arith)) h in
     let w : HasValue t false ((2 ^ 52 + k) * 2 ^ 1074) (2 ^ 1074) = subst (λ (c : ℕ). HasValue t false ((2 ^ 52 + k) * 2 ^ 1074) c) (one-mul (2 ^ 1074)) (rescaled t false (2 ^ 52 + k) 1 (2 ^ 1074) v) in
     let d : to_bits binary64 t ≡ 1074 * 2 ^ 52 + (2 ^ 52 + k) = to_bits_value t (2 ^ 52 + k) 1074 w (omega arith) (omega arith) in
-    record { number = no_nan t (2 ^ 52 + k) v; digits = omega (arith, d) }
+    record { number = no_nan_of t false (2 ^ 52 + k) 1 v; digits = omega (arith, d) }

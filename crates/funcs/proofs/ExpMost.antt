@@ -20,7 +20,7 @@ use Rattle.floats.proofs.Compare.{nonneg}
 use Rattle.floats.proofs.Unsigned.{unsigned_least}
 use Rattle.floats.proofs.Bounds.{Inside, inside_positive, within_mul}
 use Rattle.floats.proofs.SignedBounds.{Plus, AtLeast, least_round}
-use Rattle.floats.proofs.Quotients.{div_is, inverse_plus}
+use Rattle.floats.proofs.Quotients.{div_is, some_of, inverse_plus}
 use Rattle.funcs.proofs.Range.{limit, log2e}
 use Rattle.funcs.proofs.SeriesBounds.{series_most}
 use Rattle.funcs.proofs.Remainder.{remainder_bounds}
@@ -91,11 +91,7 @@ inverse_above (fin false n d) h p i =
     let b : 1 * (n * up d * 1) ≤ 1 * 1 * down d * 2 ^ 517 =
     le_trans (le_of_eq (one-mul (n * up d * 1))) (le_trans i (le_trans (mul-le-mul_right (down d) most) (le_of_eq (mul_comm (2 ^ 517) (down d) ∙ ap (λ (x : ℕ). x * 2 ^ 517) (sym (one-mul (down d))))))) in
     above_zero (f1 ⊘ fin false n d) (2 ^ 517) (inverse_plus (fin false n d) h p)
-    (subst (AtLeast 1 (2 ^ 517)) (sym (div_is false 1 (pos 0) n d (some n l))) (least_round (1 * 1 * down d) (n * up d * 1) 1 (2 ^ 517) z (pow_pos 517) (refl, refl) b))
-  where
-    some : (n : ℕ) → down d ≤ n * up d → 0 < n
-    some zero k = absurd (lt_irrefl 0 (omega (arith, down_pos d, zero-mul (up d))))
-    some (suc n) k = omega arith
+    (subst (AtLeast 1 (2 ^ 517)) (sym (div_is false 1 (pos 0) n d (some_of n d l))) (least_round (1 * 1 * down d) (n * up d * 1) 1 (2 ^ 517) z (pow_pos 517) (refl, refl) b))
 
 -- ---- one over the exponential
 

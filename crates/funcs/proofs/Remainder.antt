@@ -2,8 +2,8 @@
 use mathlib.Core.Path.{◌≡◌, refl, ap, ◌∙◌, sym, subst}
 use mathlib.Core.Bool.{true, false, true≢false}
 use Prim.Native.Nat.{ℕ, zero, suc, ◌+◌, ◌-◌, ◌*◌, ◌/◌, ◌^◌, ◌≤◌, ◌<◌}
-use native.Mathlib.Nat.{le_trans, le_of_eq, lt_of_lt_of_le, lt_irrefl, mul-pos, mul-one, one-mul, zero-mul, mul_assoc, mul_comm, mul_right_comm, mul-lt-mul_of_pos_right, mul-le-mul_right, le_of_mul-le-mul_right, add-mul, div-lt_iff_lt-mul, min-le_left, le-min, suc-mul}
-use native.Mathlib.Decide.{dec_lt, dec_le}
+use native.Mathlib.Nat.{le_trans, le_of_eq, lt_of_lt_of_le, lt_irrefl, mul-pos, mul-one, one-mul, zero-mul, le-div_iff_mul-le, lt_of_not-le, mul_assoc, mul_comm, mul_right_comm, mul-lt-mul_of_pos_right, mul-le-mul_right, le_of_mul-le-mul_right, add-mul, div-lt_iff_lt-mul, min-le_left, le-min, suc-mul}
+use native.Mathlib.Decide.{dec_le}
 use native.Mathlib.Omega.{arith}
 use lib.Pow.{pow_pos}
 use lib.IntN.{ℤ, pos, negsuc}
@@ -57,11 +57,7 @@ floor_ge (fin false n d) (fin false m e) j K p s h l =
     let c : m * up e * down d ≤ n * up d * down e = at_most _ _ true l in
     let v : m * up e ≡ j * down e = sym (mul-one (m * up e)) ∙ h.1 in
     let b : j * down d ≤ n * up d = le_of_mul-le-mul_right (le_trans (le_of_eq (mul_right_comm j (down d) (down e) ∙ ap (λ (x : ℕ). x * down d) (sym v))) c) (down_pos e) in
-    le-min (go (dec_le j (n * up d / down d)) b) (omega arith)
-  where
-    go : Dec (j ≤ n * up d / down d) → j * down d ≤ n * up d → j ≤ n * up d / down d
-    go (yes y) b = y
-    go (no f) b = absurd (lt_irrefl (n * up d) (lt_of_lt_of_le ((div-lt_iff_lt-mul {k = down d} {x = n * up d} {y = j} (down_pos d)).0 (omega arith)) b))
+    le-min ((le-div_iff_mul-le (down_pos d)).1 b) (omega arith)
 
 -- ---- x = a / c between 0 and 709, and k the whole part of x * log2 e
 -- The constants are Ln / 2 ^ 51, log2 e, and Hi / 2 ^ 32 and Lo / 2 ^ 84, which give ln 2.
@@ -79,17 +75,14 @@ unfolding mul of_bits
 product_is m e = refl
 
 under_next : (a c k : ℕ) → 0 < c → a ≤ 709 * c → k < 1023 → k ≡ to_unsigned 64 (round binary64 false (a * Ln) (c * 2 ^ 51)) → a * Ln < (k + 1) * (c * 2 ^ 51)
-under_next a c k p h s is = go (dec_lt (a * Ln) ((k + 1) * (c * 2 ^ 51)))
-  where
-    go : Dec (a * Ln < (k + 1) * (c * 2 ^ 51)) → a * Ln < (k + 1) * (c * 2 ^ 51)
-    go (yes y) = y
-    go (no f) =
-        let pos' : 0 < c * 2 ^ 51 = omega arith in
-        let p = plus_round (a * Ln) (c * 2 ^ 51) 1023 pos' (lit≤ tt) (omega arith) in
-        let w = round_whole binary64 false (k + 1) (omega arith) in
-        let l = round_mono binary64 (k + 1) 1 (a * Ln) (c * 2 ^ 51) (lit< tt) pos' (omega arith) in
-        let g = floor_ge (round binary64 false (a * Ln) (c * 2 ^ 51)) (round binary64 false (k + 1) 1) (k + 1) 1023 p (omega arith) w l in
-        absurd (lt_irrefl 0 (omega arith))
+under_next a c k p h s is =
+    lt_of_not-le (λ (f : (k + 1) * (c * 2 ^ 51) ≤ a * Ln).
+    let pos' : 0 < c * 2 ^ 51 = omega arith in
+    let p = plus_round (a * Ln) (c * 2 ^ 51) 1023 pos' (lit≤ tt) (omega arith) in
+    let w = round_whole binary64 false (k + 1) (omega arith) in
+    let l = round_mono binary64 (k + 1) 1 (a * Ln) (c * 2 ^ 51) (lit< tt) pos' (omega arith) in
+    let g = floor_ge (round binary64 false (a * Ln) (c * 2 ^ 51)) (round binary64 false (k + 1) 1) (k + 1) 1023 p (omega arith) w l in
+    lt_irrefl 0 (omega arith))
 
 half_value : (j : ℕ) → j < 1023 → HasValue (round binary64 false (2 * j + 1) 2) false (2 * j + 1) 2
 half_value j s =

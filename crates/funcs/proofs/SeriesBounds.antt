@@ -2,12 +2,12 @@
 use mathlib.Core.Path.{◌≡◌, refl, ap, ◌∙◌, sym, subst}
 use mathlib.Core.Bool.{Bool, true, false, ◌&&◌}
 use mathlib.Core.List.{List, [], ◌∷◌, foldl}
-use Prim.Native.Nat.{ℕ, suc, ◌+◌, ◌-◌, ◌*◌, ◌^◌, ◌≤◌, ◌<◌}
+use Prim.Native.Nat.{ℕ, suc, ◌+◌, ◌-◌, ◌*◌, ◌^◌, ◌≤◌}
 use native.Mathlib.Nat.{le_trans, le_of_eq, mul-pos, mul-one, one-mul, mul_assoc, mul_right_comm, mul-le-mul, add-zero}
 use native.Mathlib.Omega.{arith}
 use lib.ListN.{length}
 use lib.IntN.{ℤ}
-use lib.Dec.{T, ltb, leb, leb→le, ltb→lt, lit<, lit≤}
+use lib.Dec.{T, ltb, lit<, lit≤}
 use borrow.Author.Tests.{le-ltb}
 use lib.Ieee.{Float, nan, inf, fin, binary64, up, down, round, sum, add, mul, div, of_bits, of_int}
 use lib.Ieee.Back.{round_whole}
@@ -18,7 +18,11 @@ use Rattle.funcs.proofs.Series.{rising, exp_divisors, exp_fold}
 use Rattle.floats.proofs.Compare.{pick_no}
 use Rattle.floats.proofs.Bounds.{Inside, inside_round}
 use Rattle.floats.proofs.SignedBounds.{Plus, Minus, plus_wider, plus_mul, minus_mul, one_plus, one_minus, AtLeast, least_round}
-use Rattle.floats.proofs.Quotients.{big, quotient_bound, div_is, plus_div, minus_div}
+use Rattle.floats.proofs.Quotients.{big, big_is, quotient_bound, div_is, plus_div, minus_div}
+
+-- of a size of at most 1
+at_most_one : (m : ℕ) (e : ℤ) → m * up e * 1 ≤ 1 * down e → m * up e ≤ 1 * down e
+at_most_one m e h = omega arith
 
 -- divisors of at least 1
 abbrev all_big : List Float → Bool
@@ -47,8 +51,8 @@ pub series_most : (r : Float) → Inside 1 1 r → Plus 19 (exp_series r)
 unfolding of_bits of_int
 series_most nan h = absurd h
 series_most (inf s) h = absurd h
-series_most (fin false m e) h = subst (Plus 19) (sym (exp_fold (fin false m e))) (plus_series m e exp_divisors f1 1 (le_trans (le_of_eq (sym (mul-one (m * up e)))) h) tt (lit≤ tt) (lit≤ tt))
-series_most (fin true m e) h = plus_wider 1 19 (exp_series (fin true m e)) (lit≤ tt) (subst (Plus 1) (sym (exp_fold (fin true m e))) (minus_series m e exp_divisors f1 (le_trans (le_of_eq (sym (mul-one (m * up e)))) h) tt (lit≤ tt)))
+series_most (fin false m e) h = subst (Plus 19) (sym (exp_fold (fin false m e))) (plus_series m e exp_divisors f1 1 (at_most_one m e h) tt (lit≤ tt) (lit≤ tt))
+series_most (fin true m e) h = plus_wider 1 19 (exp_series (fin true m e)) (lit≤ tt) (subst (Plus 1) (sym (exp_fold (fin true m e))) (minus_series m e exp_divisors f1 (at_most_one m e h) tt (lit≤ tt)))
 
 least_one_plus : (B : ℕ) (y : Float) → Plus B y → AtLeast 1 1 (add binary64 f1 y)
 unfolding add sum of_bits
@@ -68,7 +72,7 @@ least_series m e (d ∷ ds) p B h a b k g =
 -- the series at an r from +0 to 1 is at least 1
 pub series_least : (m : ℕ) (e : ℤ) → Inside 1 1 (fin false m e) → AtLeast 1 1 (exp_series (fin false m e))
 unfolding of_bits of_int
-series_least m e h = subst (AtLeast 1 1) (sym (exp_fold (fin false m e))) (least_series m e exp_divisors f1 1 (le_trans (le_of_eq (sym (mul-one (m * up e)))) h) tt (lit≤ tt) (lit≤ tt) (lit≤ tt))
+series_least m e h = subst (AtLeast 1 1) (sym (exp_fold (fin false m e))) (least_series m e exp_divisors f1 1 (at_most_one m e h) tt (lit≤ tt) (lit≤ tt) (lit≤ tt))
 
 -- ---- at an r from -1/2 to -0
 half_div : (m : ℕ) (e : ℤ) (y : Float) → m * up e * 2 ≤ 1 * down e → T (big y) → Inside 1 2 (div binary64 (fin true m e) y)
@@ -77,10 +81,9 @@ half_div m e nan h k = absurd k
 half_div m e (inf s) h k = absurd k
 half_div m e (fin true n d) h k = absurd k
 half_div m e (fin false n d) h k =
-    let p : 0 < n = ltb→lt 0 n (and_l (ltb 0 n) (leb (down d) (n * up d)) k) in
-    let q : down d ≤ n * up d = leb→le _ _ (and_r (ltb 0 n) (leb (down d) (n * up d)) k) in
-    let b : m * up e * down d * 2 ≤ 1 * (n * up d * down e) = le_trans (le_of_eq (mul_right_comm (m * up e) (down d) 2)) (quotient_bound (m * up e * 2) (down e) n d h q) in
-    subst (Inside 1 2) (sym (div_is true m e n d p)) (inside_round true (m * up e * down d) (n * up d * down e) 1 2 (mul-pos (mul-pos p (up_pos d)) (down_pos e)) (lit< tt) (refl, refl) b)
+    let g = big_is n d k in
+    let b : m * up e * down d * 2 ≤ 1 * (n * up d * down e) = le_trans (le_of_eq (mul_right_comm (m * up e) (down d) 2)) (quotient_bound (m * up e * 2) (down e) n d h g.1) in
+    subst (Inside 1 2) (sym (div_is true m e n d g.0)) (inside_round true (m * up e * down d) (n * up d * down e) 1 2 (mul-pos (mul-pos g.0 (up_pos d)) (down_pos e)) (lit< tt) (refl, refl) b)
 
 half_mul : (x y : Float) → Plus 1 x → Minus 1 y → Inside 1 2 y → Inside 1 2 (mul binary64 x y)
 unfolding mul round

@@ -17,7 +17,7 @@ use lib.Ieee.Fits.{down_pos, round-fits}
 use lib.Ieee.Order.{round_mono}
 use lib.Ieee.Scale.{round_same}
 use lib.Ieee.Positive.{num, den, positive, own_value, positive_of_value, values_of_le, between}
-use Rattle.common.proofs.Patterns.{to_bits_value, rescaled}
+use Rattle.common.proofs.Patterns.{to_bits_value, rescaled, no_nan_of}
 use Rattle.common.proofs.RootFloat.{written}
 use Rattle.phonon.specs.Number.{bits, f1, float, ◌⊕◌, ◌⊖◌}
 use Rattle.phonon.specs.Trig.{floor, quadrant}
@@ -286,12 +286,6 @@ pub record Found (y t : Float) : Type 0 where
   pub upper : lt y (t ⊖ shift_f) ≡ true → (t ⊖ shift_f ⊖ f1 ≡ float (floor y)) × ((to_bits binary64 t % 4 + 3) % 4 ≡ quadrant (floor y))
   pub lower : lt y (t ⊖ shift_f) ≡ false → (t ⊖ shift_f ≡ float (floor y)) × (to_bits binary64 t % 4 ≡ quadrant (floor y))
 
-no_nan : (t : Float) (k : ℕ) → HasValue t false k 1 → T (not (is_nan t))
-unfolding is_nan
-no_nan nan k h = absurd h
-no_nan (inf s) k h = absurd h
-no_nan (fin s m e) k h = tt
-
 from_sum : (s : Bool) (m : ℕ) (e : ℤ) (t : Float) → m * up e ≤ 1048577 * down e → Whole t (moved s (m * up e) (down e) / down e) → Found (fin s m e) t
 unfolding sub
 from_sum s m e t h w =
@@ -305,7 +299,7 @@ from_sum s m e t h w =
     let digits : to_bits binary64 t ≡ 1074 * 2 ^ 52 + k = to_bits_value t k 1074 v (omega (arith, w.least, w.low)) (omega (arith, w.most, w.high)) in
     let floors = floor_moved s m e h in
     record {
-      number = no_nan t k w.value;
+      number = no_nan_of t false k 1 w.value;
       upper = λ l.
           let a : X < k * D = ltb-true X (k * D) (sym test ∙ l) in
           let b : q < k = (div-lt_iff_lt-mul (down_pos e)).1 a in

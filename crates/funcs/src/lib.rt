@@ -1,7 +1,7 @@
-// funcs.rs: the occupation of a phonon. Beside it the exponential, the sine and the cosine, which the language lacks.
+// funcs.rs: the occupation of a phonon. Beside it document 01's exponential, sine and cosine: what the library's return is promised nowhere.
 #![tactic(auto)]
 
-ghost use Rattle.std.specs.Prelude.{◌≡◌, true, false, ◌<◌, ◌≤◌, pos, length, map};
+ghost use Rattle.std.specs.Prelude.{◌≡◌, true, false, ◌<◌, ◌≤◌, pos, map};
 ghost use mathlib.Core.List.{[], ◌∷◌, foldl};
 ghost use Rattle.std.specs.Float.{fin};
 ghost use Rattle.phonon.specs.Number.{◌⊖◌, ◌⊗◌, ◌⊘◌, f1, at, float, whole};
@@ -37,6 +37,7 @@ fn power_of_two(k: u64) -> f64
 }
 
 // Neither above 709 nor below 0, and no NaN.
+#[tactic(auto, unfolding(crate::specs::Reducible::reducible))]
 fn is_reducible(x: f64) -> bool
     ensures { result ≡ reducible x }
 {
@@ -90,9 +91,9 @@ pub fn exp(x: f64) -> f64
         return p[0] * a.power;
     }
     if x > 709.0 {
-        return 1.0 / 0.0;
+        return f64::INFINITY;
     }
-    0.0 / 0.0
+    f64::NAN
 }
 
 // The exponentials of N numbers, side by side. It is laid into its callers, so that the numbers come in registers: two of them take 38 ns
@@ -165,7 +166,7 @@ struct Floored {
 }
 
 // Added to SHIFT, y is rounded to one of the two whole numbers around it; where that is the upper one, the floor is one less.
-// SHIFT is a multiple of 4, so the last digits of the sum are the number's mod 4.
+// SHIFT is a multiple of 4, so the last digits of the sum are the number's mod 4. The library's floor keeps the sign of -0.0, and tells no quadrant.
 fn floor_parts(y: f64) -> Floored
     requires { Within 1048577 y }
     ensures { (result.whole ≡ float (Trig.floor y)) × (result.quadrant ≡ Trig.quadrant (Trig.floor y)) }
@@ -249,8 +250,8 @@ pub fn sin_cos(x: f64) -> SinCos
         return turned(a.quadrant, a.rest, both_series(a.rest * a.rest));
     }
     SinCos {
-        sin: 0.0 / 0.0,
-        cos: 0.0 / 0.0,
+        sin: f64::NAN,
+        cos: f64::NAN,
     }
 }
 
@@ -260,7 +261,6 @@ pub fn sin_cos(x: f64) -> SinCos
 // Both series of three numbers, the sine's and then the cosine's of each. The divisors are lent: a constant array that is read in
 // a loop is laid out anew in every turn.
 fn three_series(x: f64, y: f64, z: f64, sines: &[f64; 9], cosines: &[f64; 9]) -> [f64; 6]
-    requires { (length sines.now ≡ 9) × (length cosines.now ≡ 9) }
     ensures { result ≡ foldl (λ p d. f1 ⊖ p ⊗ (x ⊘ d)) f1 sines.now
         ∷ foldl (λ p d. f1 ⊖ p ⊗ (x ⊘ d)) f1 cosines.now
         ∷ foldl (λ p d. f1 ⊖ p ⊗ (y ⊘ d)) f1 sines.now
@@ -309,11 +309,7 @@ pub fn sin_cos_three(x: Legs<f64>) -> Legs<SinCos>
             leg2: turned(c.quadrant, c.rest, [p[4], p[5]]),
         };
     }
-    Legs {
-        leg0: sin_cos(x.leg0),
-        leg1: sin_cos(x.leg1),
-        leg2: sin_cos(x.leg2),
-    }
+    x.map(|y| sin_cos(y))
 }
 
 // The occupations of N frequencies, side by side.

@@ -25,6 +25,10 @@ leg s zero = s.leg0
 leg s (suc zero) = s.leg1
 leg s (suc (suc n)) = s.leg2
 
+-- legs x0, x1 and x2, in this order
+abbrev pub picked : {A : Type 0} → Legs A → ℕ → ℕ → ℕ → Legs A
+picked s x0 x1 x2 = record { leg0 = leg s x0; leg1 = leg s x1; leg2 = leg s x2 }
+
 -- the legs in order number o of the table
 unfoldable pub exchanged : {A : Type 0} → ℕ → Legs A → Legs A
 exchanged o s = record {

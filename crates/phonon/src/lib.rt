@@ -18,6 +18,21 @@ pub struct SinCos {
     pub cos: f64,
 }
 
+// The cosine is the real part, the sine the imaginary.
+impl From<SinCos> for Complex {
+    ghost use Rattle.std.specs.Prelude.{◌≡◌};
+    ghost use Rattle.phonon.specs.RealToReciprocal.{as_complex};
+
+    ghost from_gives = { λ p z. z ≡ as_complex p };
+
+    fn from(p: SinCos) -> Complex {
+        Complex {
+            re: p.cos,
+            im: p.sin,
+        }
+    }
+}
+
 // One thing for each of a triplet's three legs.
 #[derive(Clone, Copy)]
 pub struct Legs<T> {
@@ -27,7 +42,7 @@ pub struct Legs<T> {
 }
 
 impl<T: Copy> Legs<T> {
-    ghost use Rattle.std.specs.Prelude.{◌≡◌};
+    ghost use Rattle.std.specs.Prelude.{◌≡◌, get_or};
     ghost use Rattle.phonon.specs.Interaction as Interaction;
 
     // That of leg x.
@@ -38,6 +53,29 @@ impl<T: Copy> Legs<T> {
             0 => self.leg0,
             1 => self.leg1,
             _ => self.leg2,
+        }
+    }
+
+    // The legs in this order.
+    pub fn picked(&self, order: [usize; 3]) -> Legs<T>
+        ensures { result ≡ Interaction.picked self.now (get_or order 0 0) (get_or order 1 0) (get_or order 2 0) }
+    {
+        Legs {
+            leg0: self.leg(order[0]),
+            leg1: self.leg(order[1]),
+            leg2: self.leg(order[2]),
+        }
+    }
+
+    // f of each leg.
+    pub fn map<U, F: Fn(T) -> U>(&self, f: F) -> Legs<U>
+        requires { F.pre f self.now.leg0 × F.pre f self.now.leg1 × F.pre f self.now.leg2 }
+        ensures { F.post f self.now.leg0 result.leg0 × F.post f self.now.leg1 result.leg1 × F.post f self.now.leg2 result.leg2 }
+    {
+        Legs {
+            leg0: f(self.leg0),
+            leg1: f(self.leg1),
+            leg2: f(self.leg2),
         }
     }
 }

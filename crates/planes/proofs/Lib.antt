@@ -9,5 +9,4 @@ pub mod SignedRead
 pub mod ReadLaws
 pub mod WorkLaws
 pub mod LegOrders
-pub mod ClearLaws
 pub mod FilledLaws

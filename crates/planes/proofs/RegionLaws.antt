@@ -31,17 +31,6 @@ wrote_step {l} {l₁} {off} {n} {f} x w room ex =
       after = λ j p. get_or-set_other l₁ (off + n) j x nan (λ (e : j ≡ off + n). omega arith) ∙ w.after j (omega arith);
     }
 
--- two runs of m numbers of t, as one array in two planes
-pub two_runs : (t : List Float) {l l₁ l₂ : List Float} {off n m : ℕ} → m ≤ n → Wrote l l₁ off m (λ c. at t (0 + c)) → Wrote l₁ l₂ (off + n) m (λ c. at t (m + c)) → WroteSplit l l₂ off n m (split t 0 m)
-two_runs t h w v =
-    record {
-      size = v.size ∙ w.size;
-      inside = λ k p. complex_eq (v.before _ (omega arith) ∙ w.inside k p) (v.inside k p ∙ ap (at t) (omega arith));
-      before = λ j p. v.before j (omega arith) ∙ w.before j p;
-      between = λ j p q. v.before j q ∙ w.after j (omega arith);
-      after = λ j p. v.after j (omega arith) ∙ w.after j (omega arith);
-    }
-
 -- ---- arrays in two planes that are written some numbers at a time
 
 -- m numbers from number j on, of which the first may have been written before

@@ -66,6 +66,7 @@ pub fn part_of<T>(s: &[T], g: usize, n: usize) -> &[T]
 }
 
 // W, the used part of the work buffer, of np atoms and ns supercell atoms.
+#[tactic(auto, unfolding(phonon::specs::Limits::work_length))]
 pub fn work_length(np: usize, ns: usize) -> usize
     requires { (np ≤ 65536) × (ns ≤ 65536) }
     ensures { result ≡ work_length np ns }
@@ -87,6 +88,7 @@ const INDEX_EXCHANGE: [[usize; 3]; 6] = [
 ];
 
 // Order number o.
+#[tactic(auto, unfolding(phonon::specs::Interaction::orders))]
 pub fn order_at(o: usize) -> [usize; 3]
     requires { o < 6 }
     ensures { result ≡ get_or orders o [] }

@@ -25,16 +25,14 @@ pub extern "C" fn standins_exp(x: f64) -> f64
 pub extern "C" fn standins_sin(x: f64) -> f64
     ensures { result ≡ (sin_cos x).sin }
 {
-    let p = funcs::sin_cos(x);
-    p.sin
+    funcs::sin_cos(x).sin
 }
 
 #[unsafe(no_mangle)]
 pub extern "C" fn standins_cos(x: f64) -> f64
     ensures { result ≡ (sin_cos x).cos }
 {
-    let p = funcs::sin_cos(x);
-    p.cos
+    funcs::sin_cos(x).cos
 }
 
 #[unsafe(no_mangle)]

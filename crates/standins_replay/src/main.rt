@@ -18,7 +18,7 @@ fn input_buffer() -> [u8; 98304]
     [0; 98304]
 }
 
-// The value of a hexadecimal digit.
+// The value of a hexadecimal digit. The library's from_str_radix takes capitals and a sign as well, which no line here may have.
 fn digit(b: u8) -> Option<u64>
     ensures { IfSome result (λ d. d < 16) }
 {
@@ -137,8 +137,8 @@ fn counted(list: &[u8]) -> Counts {
     counts
 }
 
-// Reads until buf is full, the input ends or a read fails, and returns how many bytes it put at the start of buf. The library's
-// methods that read so ask for memory.
+// Reads until buf is full, the input ends or a read fails, and returns how many bytes it put at the start of buf. An interrupted read
+// ends the input, where the library's copy would try it again.
 fn read_full<R: Read>(input: &mut R, buf: &mut [u8]) -> usize
     ensures { result ≤ length buf.new }
 {

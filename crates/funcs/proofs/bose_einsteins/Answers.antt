@@ -5,20 +5,8 @@ use Rattle.std.proofs.lemmas.List.{get_or-map}
 use Rattle.phonon.specs.Number.{◌⊖◌, ◌⊘◌, f1, at}
 use Rattle.phonon.specs.Exp as Exp
 use Rattle.phonon.specs.Funcs.{excess, bose_einstein}
-use Rattle.funcs.proofs.Changed.{changed_none, changed_more, changed_whole}
+use Rattle.funcs.proofs.Changed.{changed_whole}
 use Rattle.funcs.proofs.bose_einsteins.Goals as goal
-
-pub loop-y-init : goal.loop-y-init
-loop-y-init g c = changed_none
-
-pub loop-y-preserved : goal.loop-y-preserved
-loop-y-preserved g c = changed_more (search rules) (ap (λ y. y ⊘ c.args.temperature) (c.loop-y.invariant.rest _ (search rules))) c.loop-y.invariant
-
-pub loop-y-2-init : goal.loop-y-2-init
-loop-y-2-init g c = changed_none
-
-pub loop-y-2-preserved : goal.loop-y-2-preserved
-loop-y-2-preserved g c = changed_more (search rules) (ap (λ y. f1 ⊘ (y ⊖ f1)) (c.loop-y-2.invariant.rest _ (search rules))) c.loop-y-2.invariant
 
 pub returns : goal.returns
 unfolding bose_einstein excess

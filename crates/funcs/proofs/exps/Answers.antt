@@ -1,33 +1,15 @@
 -- Where all numbers are in the range, each exponential comes from its parts; elsewhere each is worked alone.
-use Rattle.std.proofs.Common.{rules, ◌≡◌, ◌<◌, length, ℕ, refl, ap, ◌∙◌}
+use Rattle.std.proofs.Common.{rules, ◌≡◌, ◌<◌, length, ℕ, refl, ap}
 use mathlib.Core.Bool.{true}
 use Rattle.phonon.specs.Number.{◌⊗◌, at}
 use Rattle.phonon.specs.Exp as Exp
 use Rattle.funcs.specs.Reducible.{reducible}
-use Rattle.funcs.proofs.Changed.{changed_none, changed_more, changed_whole}
+use Rattle.funcs.proofs.Changed.{changed_more, changed_whole}
 use Rattle.funcs.proofs.Reducible.{part_exp}
 use Rattle.funcs.proofs.exps.Goals as goal
 
-pub loop-y-init : goal.loop-y-init
-loop-y-init g c = changed_none
-
-pub loop-y-preserved : goal.loop-y-preserved
-loop-y-preserved g c = changed_more (search rules) (c.exp.ensures ∙ ap Exp.exp (c.loop-y.invariant.rest _ (search rules))) c.loop-y.invariant
-
 pub returns-then-not-all : goal.returns-then-not-all
 returns-then-not-all g c = changed_whole Exp.exp c.args.x refl (search rules) (λ j h. refl) c.loop-y.invariant
-
-pub loop-k-init : goal.loop-k-init
-loop-k-init g c = (changed_none, changed_none)
-
-pub loop-k-preserved : goal.loop-k-preserved
-loop-k-preserved g c =
-    let v = c.loop-k.invariant in
-    let h : c.loop-k.k < length c.args.x = search rules in
-    (changed_more h c.reduce-a.ensures.0 v.0, changed_more h c.reduce-a.ensures.1 v.1)
-
-pub loop-k-2-init : goal.loop-k-2-init
-loop-k-2-init g c = changed_none
 
 pub loop-k-2-preserved : goal.loop-k-2-preserved
 loop-k-2-preserved g c = changed_more (search rules) (ap (λ p. p ⊗ at c.loop-k.powers c.loop-k-2.k) (c.loop-k-2.invariant.rest _ (search rules))) c.loop-k-2.invariant
