@@ -1,13 +1,8 @@
--- After each turn the sixteen sums tell of the entries before i; the joined sum tells of the sixteen.
-use mathlib.Core.Path.{sym, ◌∙◌}
-use native.Mathlib.Omega.{arith}
-use Rattle.checks.proofs.Laws.{summed_more, joined_sixteen}
+-- The sixteens that the sums told of are the first entries.
+use Rattle.checks.proofs.Laws.{rows_passed}
 use Rattle.checks.proofs.summed_sixteens.Goals as goal
 
-pub loop-i-preserved : goal.loop-i-preserved
-loop-i-preserved c = summed_more c.loop-i.invariant (omega arith)
-
-pub returns-then-is_finite : goal.returns-then-is_finite
-returns-then-is_finite c =
-    let e = joined_sixteen _ _ _ _ _ _ _ _ _ _ _ _ _ _ _ _ (sym c.is_finite.ensures ∙ c.if-is_finite.true) in
-    c.loop-i.invariant.summed e.0 e.1
+pub returns-then-sums_finite : goal.returns-then-sums_finite
+returns-then-sums_finite c =
+    let s = c.args.s.now in
+    rows_passed s _ c.as_chunks.ensures.front c.as_chunks.ensures.front_len (c.sums_finite.ensures c.if-sums_finite.true)
