@@ -2,7 +2,7 @@
 use Prim.Native.Nat.{ℕ, zero, suc, ◌+◌, ◌-◌, ◌*◌, ◌≤◌, ◌<◌}
 use mathlib.Core.Bool.{Bool, true, false, not, ◌&&◌, cond, true≢false, and-true, and_assoc}
 use mathlib.Core.Path.{◌≡◌, refl, sym, ap, ◌∙◌}
-use mathlib.Core.List.{List, [], ◌∷◌}
+use mathlib.Core.List.{List, []}
 use native.Mathlib.Nat.{zero-mul, sub-zero, add-zero, suc-mul}
 use native.Mathlib.Decide.{dec_lt}
 use native.Mathlib.Numerals.{add-one}
@@ -10,7 +10,6 @@ use native.Mathlib.Omega.{arith}
 use lib.Ieee.{Float, nan, inf, fin, binary64, add, lt, eq, div, up, down}
 use lib.ListN.{length, get_or, set, drop}
 use Rattle.std.specs.Prelude.{◌/◌, ◌%◌, Option, None, Some, MatchOption, is_some, option_map}
-use Rattle.std.specs.Bool.{MatchBool}
 use Rattle.std.specs.List.{list_all, range_with_len, AllWithin, HoldsAt}
 use Rattle.std.specs.Simd.{first_chunks}
 use Rattle.std.proofs.lemmas.List.{get_or-set_same, get_or-set_other, get_or-take, get_or-drop, length-set}
@@ -20,7 +19,7 @@ use lib.IntN.{ℤ, pos}
 use lib.Dec.{leb, eqb}
 use borrow.Author.Tests.{leb-true, leb-false, ltb-true, ltb-false, eqb-true, eq-eqb, ne_eqb, not-true, not-false}
 use Rattle.phonon.specs.Tests.{every_below, first_from, finite, sign_bit}
-use Rattle.phonon.proofs.Accepted.{and_both}
+use Rattle.phonon.proofs.Accepted.{and_both, every_next}
 use Rattle.phonon.proofs.Order.{zero_left}
 use Rattle.checks.specs.Scan.{Passed, RowsFinite, first_failing}
 pub use Rattle.phonon.proofs.Accepted.{every_none, every_at, every_bad}
@@ -51,10 +50,6 @@ leb_same a b c d f g = leb_same_by a b c d f g (leb a b) (leb c d) refl refl
 
 -- ---- the test of every number below an end
 
-every_more : (p : ℕ → Bool) (k : ℕ) → every_below p k ≡ true → p k ≡ true → every_below p (suc k) ≡ true
-unfolding every_below
-every_more p k h e = rw h e
-
 -- one test more, of results that are known
 pub every_step : (p : ℕ → Bool) (k : ℕ) {a b : Bool} → a ≡ every_below p k → b ≡ p k → (a && b) ≡ every_below p (k + 1)
 unfolding every_below
@@ -72,7 +67,7 @@ unfolding every_below
 every_front p zero = sym (and-true (p 0))
 every_front p (suc n) = rw (every_front p n) (and_assoc (p 0) (every_below (λ k. p (suc k)) n) (p (suc n)))
 
--- `all` over the numbers below an end, and over a slice
+-- `all` over the numbers below an end
 all_from : (p : ℕ → Bool) (a n : ℕ) → list_all p (range_with_len a n) ≡ every_below (λ k. p (a + k)) n
 unfolding every_below
 all_from p a zero = refl
@@ -82,11 +77,6 @@ all_from p a (suc n) =
 
 pub all_below : (p : ℕ → Bool) (n : ℕ) → list_all p (range_with_len 0 n) ≡ every_below p n
 all_below p n = all_from p 0 n ∙ every_same (λ k. p (0 + k)) p (λ k. let e : 0 + k ≡ k = omega arith in rw e refl) n
-
-pub all_items : {A : Type 0} (p : A → Bool) (d : A) (xs : List A) → list_all p xs ≡ every_below (λ k. p (get_or xs k d)) (length xs)
-unfolding every_below
-all_items p d [] = refl
-all_items p d (x ∷ xs) = rw (all_items p d xs) (sym (every_front (λ k. p (get_or (x ∷ xs) k d)) (length xs)))
 
 -- ---- the first number at which a test fails
 
@@ -132,7 +122,7 @@ passed_many {p} {n} {i} (suc m) w h e =
 first_end : (p : ℕ → Bool) (n k : ℕ) → every_below p k ≡ true → eqb (first_from p n k) (n + k) ≡ every_below p (n + k)
 unfolding first_from
 first_end p zero k h = let e : 0 + k ≡ k = omega arith in rw e (rw h (eq-eqb k k refl))
-first_end p (suc n) k h = by (p k) refl (λ e. first_end p n (suc k) (every_more p k h e))
+first_end p (suc n) k h = by (p k) refl (λ e. first_end p n (suc k) (rw add-one at (every_next p k h e)))
   where
     by : (b : Bool) → p k ≡ b → (p k ≡ true → eqb (first_from p n (suc k)) (n + suc k) ≡ every_below p (n + suc k))
         → eqb (cond (p k) (first_from p n (suc k)) k) (suc n + k) ≡ every_below p (suc n + k)
@@ -260,9 +250,6 @@ pub record Told (rows : List (List Float)) (k t : ℕ) (sums : List Float) : Typ
   pub before : (i j : ℕ) → i < k → j < 16 → finite (at sums j) ≡ true → finite (at (get_or rows i []) j) ≡ true
   pub here : (j : ℕ) → j < t → finite (at sums j) ≡ true → finite (at (get_or rows k []) j) ≡ true
 
-pub told_none_yet : (rows : List (List Float)) (sums : List Float) → length sums ≡ 16 → Told rows 0 0 sums
-told_none_yet rows sums s = record { size = s; before = λ i j l m e. absurd (omega arith); here = λ j l e. absurd (omega arith) }
-
 same_or_not : {T : Type 0} (j t : ℕ) → (j ≡ t → T) → ((j ≡ t → ⊥) → T) → T
 same_or_not {T} j t f g = go (dec_lt j t) (dec_lt t j)
   where
@@ -287,21 +274,6 @@ told_entry {rows} {k} {t} {sums} w h =
           (λ q. rw q (parts (rw new at (rw q at e))).1)
           (λ n. w.here j (omega arith) (rw (old j n) at e));
     }
-
--- a whole row
-pub told_row : {rows : List (List Float)} {k : ℕ} {sums : List Float} → Told rows k 16 sums → Told rows (k + 1) 0 sums
-told_row {rows} {k} {sums} w =
-    record {
-      size = w.size;
-      before = λ i j l m e. same_or_not i k (λ q. rw q (w.here j m e)) (λ n. w.before i j (omega arith) m e);
-      here = λ j l e. absurd (omega arith);
-    }
-
--- all sums are finite
-pub told_all : {rows : List (List Float)} {sums : List Float} → Told rows (length rows) 0 sums
-    → (r : Bool) → MatchBool r (AllWithin (Passes finite) sums 0 (length sums)) ((k : ℕ) × (k < length sums) × HoldsAt (Fails finite) sums k) → r ≡ true → RowsFinite rows
-told_all w true h e = λ i j l m. w.before i j l m (h j nan (omega arith) (omega (arith, m, w.size)))
-told_all w false h e = absurd (true≢false (sym e))
 
 -- ---- entries n by n
 
