@@ -275,6 +275,10 @@ told_entry {rows} {k} {t} {sums} w h =
           (λ n. w.here j (omega arith) (rw (old j n) at e));
     }
 
+-- all sums are finite
+pub told_all : {rows : List (List Float)} {sums : List Float} → Told rows (length rows) 0 sums → every_below (λ k. finite (at sums k)) 16 ≡ true → RowsFinite rows
+told_all {sums = sums} w e = λ i j l m. w.before i j l m (every_at (λ k. finite (at sums k)) 16 j e m)
+
 -- ---- entries n by n
 
 pub chunk_at : {A : Type 0} (n c : ℕ) (xs : List A) (i j : ℕ) (d : A) → i < c → j < n → get_or (get_or (first_chunks n c xs) i []) j d ≡ get_or xs (i * n + j) d

@@ -46,7 +46,7 @@ pub fn is_within(low: i64, high: i64, x: i64) -> bool
 // ---- scans: the place of the first entry that fails the test, if one does
 
 // Where each column's sum is finite, so is each entry: a sum is finite only if all that it adds are. Sixteen sums take
-// less time than a test of each entry; fewer would wait for one another.
+// less time than a test of each entry; fewer would wait for one another. By `&` they are tested without a branch.
 fn sums_finite(rows: &[[f64; 16]]) -> bool
     ensures { result ≡ true → RowsFinite rows.now }
 {
@@ -56,7 +56,11 @@ fn sums_finite(rows: &[[f64; 16]]) -> bool
             sums[t] = sums[t] + row[t];
         }
     }
-    sums.iter().all(|x| is_finite(*x))
+    let mut good = true;
+    for x in &sums {
+        good = good & is_finite(*x);
+    }
+    good
 }
 
 // The entries before the answer are finite, as far as they come in sixteens. Where a sum is not finite, it may have grown
