@@ -15,6 +15,7 @@ use phonon::{Crystal, Grid, Legs, Symmetry, Tables};
 use planes::{index_at, order_at, part_of};
 use real_to_reciprocal::phases::{compute_q_vec, phase, pre_phase};
 
+#[tactic(auto, unfolding(phonon::specs::Trig::in_domain))]
 fn in_domain(x: f64) -> bool
     ensures { result ≡ in_domain x }
 {
@@ -131,10 +132,5 @@ pub fn list_phases_ok(tables: &Tables<'_>, list: usize, triplets: &[i64]) -> boo
     requires { Readable (tables_of tables.now) (list * 3) triplets.now }
     ensures { result ≡ every_below (λ t. points_fine (tables_of tables.now) (part 3 t triplets.now)) list }
 {
-    for t in 0..list {
-        if !phases_ok(tables, part_of(triplets, t, 3)) {
-            return false;
-        }
-    }
-    true
+    (0..list).all(|t| phases_ok(tables, part_of(triplets, t, 3)))
 }
