@@ -21,7 +21,7 @@ use borrow.Author.Tests.{leb-true, leb-false, ltb-true, ltb-false, eqb-true, eq-
 use Rattle.phonon.specs.Tests.{every_below, first_from, finite, sign_bit}
 use Rattle.phonon.proofs.Accepted.{and_both, every_next}
 use Rattle.phonon.proofs.Order.{zero_left}
-use Rattle.checks.specs.Scan.{Passed, RowsFinite, first_failing}
+use Rattle.checks.specs.Scan.{Passed, Summed, first_failing}
 pub use Rattle.phonon.proofs.Accepted.{every_none, every_at, every_bad}
 
 pub and_left : (a b : Bool) → (a && b) ≡ true → a ≡ true
@@ -244,11 +244,14 @@ sum_parts (fin s m x) nan e = absurd (true≢false (sym e))
 sum_parts (fin s m x) (inf t) e = absurd (true≢false (sym e))
 sum_parts (fin s m x) (fin t n d) e = (refl, refl)
 
--- sums of the columns of k rows of sixteen, those before column t of one row more: where one is finite, so are its parts
-pub record Told (rows : List (List Float)) (k t : ℕ) (sums : List Float) : Type 0 where
-  pub size : length sums ≡ 16
-  pub before : (i j : ℕ) → i < k → j < 16 → finite (at sums j) ≡ true → finite (at (get_or rows i []) j) ≡ true
+-- sums of the n columns of k rows, those before column t of one row more
+pub record Told (rows : List (List Float)) (n k t : ℕ) (sums : List Float) : Type 0 where
+  pub size : length sums ≡ n
+  pub before : (i j : ℕ) → i < k → j < n → finite (at sums j) ≡ true → finite (at (get_or rows i []) j) ≡ true
   pub here : (j : ℕ) → j < t → finite (at sums j) ≡ true → finite (at (get_or rows k []) j) ≡ true
+
+pub told_none_yet : (rows : List (List Float)) (n : ℕ) (sums : List Float) → length sums ≡ n → Told rows n 0 0 sums
+told_none_yet rows n sums s = record { size = s; before = λ i j l m e. absurd (omega arith); here = λ j l e. absurd (omega arith) }
 
 same_or_not : {T : Type 0} (j t : ℕ) → (j ≡ t → T) → ((j ≡ t → ⊥) → T) → T
 same_or_not {T} j t f g = go (dec_lt j t) (dec_lt t j)
@@ -259,8 +262,8 @@ same_or_not {T} j t f g = go (dec_lt j t) (dec_lt t j)
     go (no m) (no n) = f (omega arith)
 
 -- one entry more
-pub told_entry : {rows : List (List Float)} {k t : ℕ} {sums : List Float} → Told rows k t sums → t < 16 → Told rows k (t + 1) (set sums t (at sums t ⊕ at (get_or rows k []) t))
-told_entry {rows} {k} {t} {sums} w h =
+pub told_entry : {rows : List (List Float)} {n k t : ℕ} {sums : List Float} → Told rows n k t sums → t < n → Told rows n k (t + 1) (set sums t (at sums t ⊕ at (get_or rows k []) t))
+told_entry {rows} {n} {k} {t} {sums} w h =
     let y = at sums t ⊕ at (get_or rows k []) t in
     let new : at (set sums t y) t ≡ y = get_or-set_same sums t y nan (omega (arith, w.size)) in
     let old : (j : ℕ) → (j ≡ t → ⊥) → at (set sums t y) j ≡ at sums j = λ j n. get_or-set_other sums t j y nan n in
@@ -275,9 +278,17 @@ told_entry {rows} {k} {t} {sums} w h =
           (λ n. w.here j (omega arith) (rw (old j n) at e));
     }
 
--- all sums are finite
-pub told_all : {rows : List (List Float)} {sums : List Float} → Told rows (length rows) 0 sums → every_below (λ k. finite (at sums k)) 16 ≡ true → RowsFinite rows
-told_all {sums = sums} w e = λ i j l m. w.before i j l m (every_at (λ k. finite (at sums k)) 16 j e m)
+-- a whole row
+pub told_row : {rows : List (List Float)} {n k : ℕ} {sums : List Float} → Told rows n k n sums → Told rows n (k + 1) 0 sums
+told_row {rows} {n} {k} {sums} w =
+    record {
+      size = w.size;
+      before = λ i j l m e. same_or_not i k (λ q. rw q (w.here j m e)) (λ n. w.before i j (omega arith) m e);
+      here = λ j l e. absurd (omega arith);
+    }
+
+pub told_all : {rows : List (List Float)} {n : ℕ} {sums : List Float} → Told rows n (length rows) 0 sums → Summed rows n sums
+told_all w = record { size = w.size; parts = w.before }
 
 -- ---- entries n by n
 
@@ -289,20 +300,38 @@ chunk_at n (suc c) xs (suc i) j d h k =
     let e : suc i * n + j ≡ n + (i * n + j) = omega (arith, s) in
     rw e (chunk_at n c (drop n xs) i j d (omega arith) k ∙ get_or-drop n xs (i * n + j) d)
 
--- rows that are finite
-pub rows_passed : (s : List Float) (rows : List (List Float)) → rows ≡ first_chunks 16 (length s / 16) s → length rows ≡ length s / 16 → RowsFinite rows
-    → Passed (λ k. finite (at s k)) (length s) (16 * length rows)
-rows_passed s rows e l r =
-    let z : 0 + 16 * length rows ≡ 16 * length rows = omega arith in
-    passed_same z (passed_many (16 * length rows) (passed_none _ _) (omega (arith, l)) (λ t k. one t k))
-  where
-    one : (t : ℕ) → t < 16 * length rows → finite (at s (0 + t)) ≡ true
-    one t k =
-        let a : t / 16 < length s / 16 = omega (arith, l, k) in
-        let b : t / 16 < length rows = omega (arith, l, k) in
-        let m : t % 16 < 16 = omega arith in
-        let p : t / 16 * 16 + t % 16 ≡ 0 + t = omega arith in
-        rw (e, chunk_at 16 (length s / 16) s (t / 16) (t % 16) nan a m, p) at (r (t / 16) (t % 16) b m)
+-- entries that were summed twice: by sixteen, and the sums by four
+module _ (s : List Float) (rows quarters : List (List Float)) (sums last : List Float)
+    (e : rows ≡ first_chunks 16 (length s / 16) s) (l : length rows ≡ length s / 16) (w : Summed rows 16 sums)
+    (f : quarters ≡ first_chunks 4 (length sums / 4) sums) (m : length quarters ≡ length sums / 4) (v : Summed quarters 4 last) where
+  -- the last four sums are finite, and so are the sixteen
+  sum_finite : ((j : ℕ) → j < 4 → finite (at last j) ≡ true) → (t : ℕ) → t < 16 → finite (at sums t) ≡ true
+  sum_finite h t k =
+      let a : t / 4 < length sums / 4 = omega (arith, k, w.size) in
+      let b : t / 4 < length quarters = omega (arith, k, m, w.size) in
+      let c : t % 4 < 4 = omega arith in
+      let p : t / 4 * 4 + t % 4 ≡ t = omega arith in
+      rw (f, chunk_at 4 (length sums / 4) sums (t / 4) (t % 4) nan a c, p) at (v.parts (t / 4) (t % 4) b c (h (t % 4) c))
+
+  entry_finite : ((j : ℕ) → j < 4 → finite (at last j) ≡ true) → (t : ℕ) → t < 16 * length rows → finite (at s (0 + t)) ≡ true
+  entry_finite h t k =
+      let a : t / 16 < length s / 16 = omega (arith, l, k) in
+      let b : t / 16 < length rows = omega (arith, l, k) in
+      let c : t % 16 < 16 = omega arith in
+      let p : t / 16 * 16 + t % 16 ≡ 0 + t = omega arith in
+      rw (e, chunk_at 16 (length s / 16) s (t / 16) (t % 16) nan a c, p) at (w.parts (t / 16) (t % 16) b c (sum_finite h (t % 16) c))
+
+  four : finite ((at last 0 ⊕ at last 1) ⊕ (at last 2 ⊕ at last 3)) ≡ true → (j : ℕ) → j < 4 → finite (at last j) ≡ true
+  four h zero k = (sum_parts (at last 0) (at last 1) (sum_parts (at last 0 ⊕ at last 1) (at last 2 ⊕ at last 3) h).0).0
+  four h (suc zero) k = (sum_parts (at last 0) (at last 1) (sum_parts (at last 0 ⊕ at last 1) (at last 2 ⊕ at last 3) h).0).1
+  four h (suc (suc zero)) k = (sum_parts (at last 2) (at last 3) (sum_parts (at last 0 ⊕ at last 1) (at last 2 ⊕ at last 3) h).1).0
+  four h (suc (suc (suc zero))) k = (sum_parts (at last 2) (at last 3) (sum_parts (at last 0 ⊕ at last 1) (at last 2 ⊕ at last 3) h).1).1
+  four h (suc (suc (suc (suc j)))) k = absurd (omega arith)
+
+  pub rows_passed : finite ((at last 0 ⊕ at last 1) ⊕ (at last 2 ⊕ at last 3)) ≡ true → Passed (λ k. finite (at s k)) (length s) (16 * length rows)
+  rows_passed h =
+      let z : 0 + 16 * length rows ≡ 16 * length rows = omega arith in
+      passed_same z (passed_many (16 * length rows) (passed_none _ _) (omega (arith, l)) (entry_finite (four h)))
 
 -- entries of two numbers
 pub pair_at : (l : List ℤ) (rows : List (List ℤ)) → rows ≡ first_chunks 2 (length l / 2) l → length rows ≡ length l / 2 → (n j : ℕ) → n < length rows → j < 2 → int (get_or rows n []) j ≡ int l (2 * n + j)

@@ -9,12 +9,12 @@ pub mod sizes;
 pub mod values;
 pub mod verdict;
 
-ghost use Rattle.std.specs.Prelude.{◌≡◌, ◌+◌, ◌*◌, ◌/◌, true, length};
+ghost use Rattle.std.specs.Prelude.{◌≡◌, ◌+◌, ◌*◌, ◌/◌, length};
 ghost use Rattle.std.specs.Float.Ieee.{lt};
 ghost use Rattle.phonon.specs.Number.{f0, at, int};
 ghost use Rattle.phonon.specs.Tests.{finite, sign_bit, all_finite, within, all_within, vector_range};
 ghost use Rattle.phonon.specs.Refusal.{masses_ok, ranges_ok};
-ghost use Rattle.checks.specs.Scan.{Passed, RowsFinite, first_failing};
+ghost use Rattle.checks.specs.Scan.{Passed, Summed, first_failing};
 
 pub fn is_finite(x: f64) -> bool
     ensures { result ≡ finite x }
@@ -45,31 +45,29 @@ pub fn is_within(low: i64, high: i64, x: i64) -> bool
 
 // ---- scans: the place of the first entry that fails the test, if one does
 
-// Where each column's sum is finite, so is each entry: a sum is finite only if all that it adds are. Sixteen sums take
-// less time than a test of each entry; fewer would wait for one another. By `&` they are tested without a branch.
-fn sums_finite(rows: &[[f64; 16]]) -> bool
-    ensures { result ≡ true → RowsFinite rows.now }
+// The sum of each column. It is finite only if all that it adds are.
+fn column_sums<const N: usize>(rows: &[[f64; N]]) -> [f64; N]
+    ensures { Summed rows.now N result }
 {
-    let mut sums = [0.0; 16];
+    let mut sums = [0.0; N];
     for row in rows {
-        for t in 0..16 {
+        for t in 0..N {
             sums[t] = sums[t] + row[t];
         }
     }
-    let mut good = true;
-    for x in &sums {
-        good = good & is_finite(*x);
-    }
-    good
+    sums
 }
 
-// The entries before the answer are finite, as far as they come in sixteens. Where a sum is not finite, it may have grown
-// too large, and nothing is told.
+// The entries before the answer are finite, as far as they come in sixteens. Sixteen sums take less time than a test of
+// each entry; fewer would wait for one another. Where their sum is not finite, it may have grown too large, and nothing is told.
 fn summed_sixteens(s: &[f64]) -> usize
     ensures { Passed (λ k. finite (at s.now k)) (length s.now) result }
 {
     let (rows, _) = s.as_chunks::<16>();
-    if sums_finite(rows) {
+    let sums = column_sums(rows);
+    let (quarters, _) = sums.as_chunks::<4>();
+    let last = column_sums(quarters);
+    if is_finite((last[0] + last[1]) + (last[2] + last[3])) {
         16 * rows.len()
     } else {
         0
