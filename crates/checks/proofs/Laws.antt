@@ -321,14 +321,17 @@ module _ (s : List Float) (rows quarters : List (List Float)) (sums last : List 
       let p : t / 16 * 16 + t % 16 ≡ 0 + t = omega arith in
       rw (e, chunk_at 16 (length s / 16) s (t / 16) (t % 16) nan a c, p) at (w.parts (t / 16) (t % 16) b c (sum_finite h (t % 16) c))
 
-  four : finite ((at last 0 ⊕ at last 1) ⊕ (at last 2 ⊕ at last 3)) ≡ true → (j : ℕ) → j < 4 → finite (at last j) ≡ true
-  four h zero k = (sum_parts (at last 0) (at last 1) (sum_parts (at last 0 ⊕ at last 1) (at last 2 ⊕ at last 3) h).0).0
-  four h (suc zero) k = (sum_parts (at last 0) (at last 1) (sum_parts (at last 0 ⊕ at last 1) (at last 2 ⊕ at last 3) h).0).1
-  four h (suc (suc zero)) k = (sum_parts (at last 2) (at last 3) (sum_parts (at last 0 ⊕ at last 1) (at last 2 ⊕ at last 3) h).1).0
-  four h (suc (suc (suc zero))) k = (sum_parts (at last 2) (at last 3) (sum_parts (at last 0 ⊕ at last 1) (at last 2 ⊕ at last 3) h).1).1
+  abbrev pub joined : Float
+  joined = (at last 0 ⊕ at last 2) ⊕ (at last 1 ⊕ at last 3)
+
+  four : finite joined ≡ true → (j : ℕ) → j < 4 → finite (at last j) ≡ true
+  four h zero k = (sum_parts (at last 0) (at last 2) (sum_parts (at last 0 ⊕ at last 2) (at last 1 ⊕ at last 3) h).0).0
+  four h (suc zero) k = (sum_parts (at last 1) (at last 3) (sum_parts (at last 0 ⊕ at last 2) (at last 1 ⊕ at last 3) h).1).0
+  four h (suc (suc zero)) k = (sum_parts (at last 0) (at last 2) (sum_parts (at last 0 ⊕ at last 2) (at last 1 ⊕ at last 3) h).0).1
+  four h (suc (suc (suc zero))) k = (sum_parts (at last 1) (at last 3) (sum_parts (at last 0 ⊕ at last 2) (at last 1 ⊕ at last 3) h).1).1
   four h (suc (suc (suc (suc j)))) k = absurd (omega arith)
 
-  pub rows_passed : finite ((at last 0 ⊕ at last 1) ⊕ (at last 2 ⊕ at last 3)) ≡ true → Passed (λ k. finite (at s k)) (length s) (16 * length rows)
+  pub rows_passed : finite joined ≡ true → Passed (λ k. finite (at s k)) (length s) (16 * length rows)
   rows_passed h =
       let z : 0 + 16 * length rows ≡ 16 * length rows = omega arith in
       passed_same z (passed_many (16 * length rows) (passed_none _ _) (omega (arith, l)) (entry_finite (four h)))

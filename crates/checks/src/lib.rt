@@ -59,7 +59,8 @@ fn column_sums<const N: usize>(rows: &[[f64; N]]) -> [f64; N]
 }
 
 // The entries before the answer are finite, as far as they come in sixteens. Sixteen sums take less time than a test of
-// each entry; fewer would wait for one another. Where their sum is not finite, it may have grown too large, and nothing is told.
+// each entry; fewer would wait for one another. Neighbours stay side by side in a vector, so the last four are added first to third.
+// Where the sum is not finite, it may have grown too large, and nothing is told.
 fn summed_sixteens(s: &[f64]) -> usize
     ensures { Passed (λ k. finite (at s.now k)) (length s.now) result }
 {
@@ -67,7 +68,7 @@ fn summed_sixteens(s: &[f64]) -> usize
     let sums = column_sums(rows);
     let (quarters, _) = sums.as_chunks::<4>();
     let last = column_sums(quarters);
-    if is_finite((last[0] + last[1]) + (last[2] + last[3])) {
+    if is_finite((last[0] + last[2]) + (last[1] + last[3])) {
         16 * rows.len()
     } else {
         0
