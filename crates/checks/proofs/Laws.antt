@@ -21,7 +21,7 @@ use borrow.Author.Tests.{leb-true, leb-false, ltb-true, ltb-false, eqb-true, eq-
 use Rattle.phonon.specs.Tests.{every_below, first_from, finite, sign_bit}
 use Rattle.phonon.proofs.Accepted.{and_both, every_next}
 use Rattle.phonon.proofs.Order.{zero_left}
-use Rattle.checks.specs.Scan.{Passed, Summed, first_failing}
+use Rattle.checks.specs.Scan.{Passed, SumsTell, first_failing}
 pub use Rattle.phonon.proofs.Accepted.{every_none, every_at, every_bad}
 
 pub and_left : (a b : Bool) → (a && b) ≡ true → a ≡ true
@@ -111,12 +111,15 @@ pub passed_same : {p : ℕ → Bool} {n a b : ℕ} → a ≡ b → Passed p n a 
 passed_same e w = rw (sym e) w
 
 -- m entries more
-pub passed_many : {p : ℕ → Bool} {n i : ℕ} (m : ℕ) → Passed p n i → i + m ≤ n → ((t : ℕ) → t < m → p (i + t) ≡ true) → Passed p n (i + m)
-passed_many {p} {n} {i} zero w h e = let z : i ≡ i + 0 = omega arith in passed_same z w
-passed_many {p} {n} {i} (suc m) w h e =
-    let before = passed_many m w (omega arith) (λ t l. e t (omega arith)) in
+pub passed_each : {p : ℕ → Bool} {n i : ℕ} (m : ℕ) → Passed p n i → i + m ≤ n → ((t : ℕ) → t < m → p (i + t) ≡ true) → Passed p n (i + m)
+passed_each {p} {n} {i} zero w h e = let z : i ≡ i + 0 = omega arith in passed_same z w
+passed_each {p} {n} {i} (suc m) w h e =
+    let before = passed_each m w (omega arith) (λ t l. e t (omega arith)) in
     let z : i + m + 1 ≡ i + suc m = omega arith in
     passed_same z (passed_more before (omega arith) (e m (omega arith)))
+
+pub passed_many : {p : ℕ → Bool} {n i : ℕ} (m : ℕ) → Passed p n i → i + m ≤ n → every_below (λ t. p (i + t)) m ≡ true → Passed p n (i + m)
+passed_many {p} {n} {i} m w h e = passed_each m w h (λ t. every_at (λ k. p (i + k)) m t e)
 
 -- the first of the n numbers from k on is the end exactly where none of them fails, given that none below k does
 first_end : (p : ℕ → Bool) (n k : ℕ) → every_below p k ≡ true → eqb (first_from p n k) (n + k) ≡ every_below p (n + k)
@@ -130,7 +133,7 @@ first_end p (suc n) k h = by (p k) refl (λ e. first_end p n (suc k) (rw add-one
     by false e go = rw e (ne_eqb k (suc n + k) (λ (z : k ≡ suc n + k). omega arith) ∙ sym (every_bad p (suc n + k) k (omega arith) e))
 
 -- a scan that comes to the end has passed every entry
-first_every : (p : ℕ → Bool) (n : ℕ) → eqb (first_from p n 0) n ≡ every_below p n
+pub first_every : (p : ℕ → Bool) (n : ℕ) → eqb (first_from p n 0) n ≡ every_below p n
 first_every p n = let e : n + 0 ≡ n = omega arith in rw e at (first_end p n 0 (every_none p))
 
 -- ---- its place, if there is one
@@ -167,9 +170,9 @@ Searched q ys o = MatchOption o (AllWithin (Passes q) ys 0 (length ys)) (λ m. (
 -- a search of the items from number i on, where those before have passed
 pub searched_from : {A : Type 0} (q : A → Bool) (ys : List A) (d : A) {p : ℕ → Bool} {n i : ℕ} → Passed p n i → i + length ys ≡ n → ((t : ℕ) → t < length ys → p (i + t) ≡ q (get_or ys t d))
     → (o : Option ℕ) → Searched q ys o → option_map (λ m. i + m) o ≡ first_failing p n
-searched_from q ys d {p} {n} {i} w l e None h = failing_none (passed_same l (passed_many (length ys) w (omega (arith, l)) (λ t k. e t k ∙ h t d (omega arith) k)))
+searched_from q ys d {p} {n} {i} w l e None h = failing_none (passed_same l (passed_each (length ys) w (omega (arith, l)) (λ t k. e t k ∙ h t d (omega arith) k)))
 searched_from q ys d {p} {n} {i} w l e (Some m) h =
-    failing_here (passed_many m w (omega (arith, h.0, l)) (λ t k. e t (omega (arith, h.0, k)) ∙ h.2 t d (omega arith) k)) (omega (arith, h.0, l)) (e m h.0 ∙ h.1 d)
+    failing_here (passed_each m w (omega (arith, h.0, l)) (λ t k. e t (omega (arith, h.0, k)) ∙ h.2 t d (omega arith) k)) (omega (arith, h.0, l)) (e m h.0 ∙ h.1 d)
 
 option_same : (o : Option ℕ) → option_map (λ m. 0 + m) o ≡ o
 option_same None = refl
@@ -287,7 +290,7 @@ told_row {rows} {n} {k} {sums} w =
       here = λ j l e. absurd (omega arith);
     }
 
-pub told_all : {rows : List (List Float)} {n : ℕ} {sums : List Float} → Told rows n (length rows) 0 sums → Summed rows n sums
+pub told_all : {rows : List (List Float)} {n : ℕ} {sums : List Float} → Told rows n (length rows) 0 sums → SumsTell rows n sums
 told_all w = record { size = w.size; parts = w.before }
 
 -- ---- entries n by n
@@ -302,8 +305,8 @@ chunk_at n (suc c) xs (suc i) j d h k =
 
 -- entries that were summed twice: by sixteen, and the sums by four
 module _ (s : List Float) (rows quarters : List (List Float)) (sums last : List Float)
-    (e : rows ≡ first_chunks 16 (length s / 16) s) (l : length rows ≡ length s / 16) (w : Summed rows 16 sums)
-    (f : quarters ≡ first_chunks 4 (length sums / 4) sums) (m : length quarters ≡ length sums / 4) (v : Summed quarters 4 last) where
+    (e : rows ≡ first_chunks 16 (length s / 16) s) (l : length rows ≡ length s / 16) (w : SumsTell rows 16 sums)
+    (f : quarters ≡ first_chunks 4 (length sums / 4) sums) (m : length quarters ≡ length sums / 4) (v : SumsTell quarters 4 last) where
   -- the last four sums are finite, and so are the sixteen
   sum_finite : ((j : ℕ) → j < 4 → finite (at last j) ≡ true) → (t : ℕ) → t < 16 → finite (at sums t) ≡ true
   sum_finite h t k =
@@ -334,7 +337,7 @@ module _ (s : List Float) (rows quarters : List (List Float)) (sums last : List 
   pub rows_passed : finite joined ≡ true → Passed (λ k. finite (at s k)) (length s) (16 * length rows)
   rows_passed h =
       let z : 0 + 16 * length rows ≡ 16 * length rows = omega arith in
-      passed_same z (passed_many (16 * length rows) (passed_none _ _) (omega (arith, l)) (entry_finite (four h)))
+      passed_same z (passed_each (16 * length rows) (passed_none _ _) (omega (arith, l)) (entry_finite (four h)))
 
 -- entries of two numbers
 pub pair_at : (l : List ℤ) (rows : List (List ℤ)) → rows ≡ first_chunks 2 (length l / 2) l → length rows ≡ length l / 2 → (n j : ℕ) → n < length rows → j < 2 → int (get_or rows n []) j ≡ int l (2 * n + j)

@@ -13,6 +13,6 @@ pub record Passed (p : ℕ → Bool) (n i : ℕ) : Type 0 where
   pub first : first_from p (n - i) i ≡ first_from p n 0
 
 -- sums of n columns: where one is finite, so is each entry of its column
-pub record Summed (rows : List (List Float)) (n : ℕ) (sums : List Float) : Type 0 where
+pub record SumsTell (rows : List (List Float)) (n : ℕ) (sums : List Float) : Type 0 where
   pub size : length sums ≡ n
   pub parts : (i j : ℕ) → i < length rows → j < n → finite (at sums j) ≡ true → finite (at (get_or rows i []) j) ≡ true

@@ -14,7 +14,7 @@ ghost use Rattle.std.specs.Float.Ieee.{lt};
 ghost use Rattle.phonon.specs.Number.{f0, at, int};
 ghost use Rattle.phonon.specs.Tests.{finite, sign_bit, all_finite, within, all_within, vector_range};
 ghost use Rattle.phonon.specs.Refusal.{masses_ok, ranges_ok};
-ghost use Rattle.checks.specs.Scan.{Passed, Summed, first_failing};
+ghost use Rattle.checks.specs.Scan.{Passed, SumsTell, first_failing};
 
 pub fn is_finite(x: f64) -> bool
     ensures { result ≡ finite x }
@@ -47,7 +47,7 @@ pub fn is_within(low: i64, high: i64, x: i64) -> bool
 
 // The sum of each column. It is finite only if all that it adds are.
 fn column_sums<const N: usize>(rows: &[[f64; N]]) -> [f64; N]
-    ensures { Summed rows.now N result }
+    ensures { SumsTell rows.now N result }
 {
     let mut sums = [0.0; N];
     for row in rows {

@@ -46,6 +46,7 @@ fn legs_phases_ok(q: &Legs<[f64; 3]>, vectors: &[f64], multiplicity: &[i64], ent
 }
 
 // Atom i, with the three q in one order.
+// `Anchored` is asked of three functions: a struct refuses it as a ghost field, since it holds two numbers beside its facts.
 fn pre_phase_ok(q: &Legs<[f64; 3]>, crystal: &Crystal<'_>, atoms: usize, i: usize) -> bool
     requires { (i < atoms)
         × Anchored crystal.now.vectors.now crystal.now.multiplicity.now crystal.now.forces.p2s.now atoms }

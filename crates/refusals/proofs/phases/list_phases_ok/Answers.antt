@@ -15,9 +15,9 @@ use Rattle.refusals.proofs.phases.list_phases_ok.Goals as goal
 
 pub all-requires-clause-callable : goal.all-requires-clause-callable
 all-requires-clause-callable c = serves_from_Range (λ x q r. search rules) (λ x l h. (
-      λ κs r g e w b u v. omega (arith, h, c.requires.located.enough),
-      λ κs r g e w b u p v. rw p.ensures.0 (part_readable _ c.args.triplets.now x c.requires h),
-    ))
+  λ κs r g e w b u v. omega (arith, h, c.requires.located.enough),
+  λ κs r g e w b u p v. rw p.ensures.0 (part_readable _ c.args.triplets.now x c.requires h),
+))
 
 pub returns : goal.returns
 returns c =
