@@ -2,22 +2,26 @@
 use Prim.Native.Nat.{ℕ, zero, suc, ◌+◌, ◌-◌, ◌*◌, ◌≤◌, ◌<◌}
 use mathlib.Core.Bool.{Bool, true, false, not, ◌&&◌, cond, true≢false, and-true, and_assoc}
 use mathlib.Core.Path.{◌≡◌, refl, sym, ap, ◌∙◌}
-use mathlib.Core.List.{List, [], ◌∷◌}
-use native.Mathlib.Nat.{zero-mul, sub-zero, add-zero}
+use mathlib.Core.List.{List, []}
+use native.Mathlib.Nat.{zero-mul, sub-zero, add-zero, suc-mul}
+use native.Mathlib.Decide.{dec_lt}
 use native.Mathlib.Numerals.{add-one}
 use native.Mathlib.Omega.{arith}
 use lib.Ieee.{Float, nan, inf, fin, binary64, add, lt, eq, div, up, down}
-use lib.ListN.{length, get_or}
-use Rattle.std.specs.List.{list_all, range_with_len}
-use Rattle.phonon.specs.Number.{◌⊕◌, at}
+use lib.ListN.{length, get_or, set, drop}
+use Rattle.std.specs.Prelude.{◌/◌, ◌%◌, Option, None, Some, MatchOption, is_some, option_map}
+use Rattle.std.specs.List.{list_all, range_with_len, AllWithin, HoldsAt}
+use Rattle.std.specs.Simd.{first_chunks}
+use Rattle.std.proofs.lemmas.List.{get_or-set_same, get_or-set_other, get_or-take, get_or-drop, length-set}
+use Rattle.phonon.specs.Number.{◌⊕◌, at, int}
 use lib.Ieee.Fits.{up_pos}
 use lib.IntN.{ℤ, pos}
 use lib.Dec.{leb, eqb}
 use borrow.Author.Tests.{leb-true, leb-false, ltb-true, ltb-false, eqb-true, eq-eqb, ne_eqb, not-true, not-false}
 use Rattle.phonon.specs.Tests.{every_below, first_from, finite, sign_bit}
-use Rattle.phonon.proofs.Accepted.{and_both}
+use Rattle.phonon.proofs.Accepted.{and_both, every_next}
 use Rattle.phonon.proofs.Order.{zero_left}
-use Rattle.checks.specs.Scan.{Passed}
+use Rattle.checks.specs.Scan.{Passed, SumsTell, first_failing}
 pub use Rattle.phonon.proofs.Accepted.{every_none, every_at, every_bad}
 
 pub and_left : (a b : Bool) → (a && b) ≡ true → a ≡ true
@@ -46,10 +50,6 @@ leb_same a b c d f g = leb_same_by a b c d f g (leb a b) (leb c d) refl refl
 
 -- ---- the test of every number below an end
 
-every_more : (p : ℕ → Bool) (k : ℕ) → every_below p k ≡ true → p k ≡ true → every_below p (suc k) ≡ true
-unfolding every_below
-every_more p k h e = rw h e
-
 -- one test more, of results that are known
 pub every_step : (p : ℕ → Bool) (k : ℕ) {a b : Bool} → a ≡ every_below p k → b ≡ p k → (a && b) ≡ every_below p (k + 1)
 unfolding every_below
@@ -67,7 +67,7 @@ unfolding every_below
 every_front p zero = sym (and-true (p 0))
 every_front p (suc n) = rw (every_front p n) (and_assoc (p 0) (every_below (λ k. p (suc k)) n) (p (suc n)))
 
--- `all` over the numbers below an end, and over a slice
+-- `all` over the numbers below an end
 all_from : (p : ℕ → Bool) (a n : ℕ) → list_all p (range_with_len a n) ≡ every_below (λ k. p (a + k)) n
 unfolding every_below
 all_from p a zero = refl
@@ -77,11 +77,6 @@ all_from p a (suc n) =
 
 pub all_below : (p : ℕ → Bool) (n : ℕ) → list_all p (range_with_len 0 n) ≡ every_below p n
 all_below p n = all_from p 0 n ∙ every_same (λ k. p (0 + k)) p (λ k. let e : 0 + k ≡ k = omega arith in rw e refl) n
-
-pub all_items : {A : Type 0} (p : A → Bool) (d : A) (xs : List A) → list_all p xs ≡ every_below (λ k. p (get_or xs k d)) (length xs)
-unfolding every_below
-all_items p d [] = refl
-all_items p d (x ∷ xs) = rw (all_items p d xs) (sym (every_front (λ k. p (get_or (x ∷ xs) k d)) (length xs)))
 
 -- ---- the first number at which a test fails
 
@@ -115,20 +110,22 @@ first_none {p} {n} {i} w h =
 pub passed_same : {p : ℕ → Bool} {n a b : ℕ} → a ≡ b → Passed p n a → Passed p n b
 passed_same e w = rw (sym e) w
 
--- m entries at once
-pub passed_many : {p : ℕ → Bool} {n i : ℕ} (m : ℕ) → Passed p n i → i + m ≤ n → every_below (λ t. p (i + t)) m ≡ true → Passed p n (i + m)
-unfolding every_below
-passed_many {p} {n} {i} zero w h e = let z : i ≡ i + 0 = omega arith in passed_same z w
-passed_many {p} {n} {i} (suc m) w h e =
-    let before = passed_many m w (omega arith) (and_left (every_below (λ t. p (i + t)) m) (p (i + m)) e) in
+-- m entries more
+pub passed_each : {p : ℕ → Bool} {n i : ℕ} (m : ℕ) → Passed p n i → i + m ≤ n → ((t : ℕ) → t < m → p (i + t) ≡ true) → Passed p n (i + m)
+passed_each {p} {n} {i} zero w h e = let z : i ≡ i + 0 = omega arith in passed_same z w
+passed_each {p} {n} {i} (suc m) w h e =
+    let before = passed_each m w (omega arith) (λ t l. e t (omega arith)) in
     let z : i + m + 1 ≡ i + suc m = omega arith in
-    passed_same z (passed_more before (omega arith) (and_right (every_below (λ t. p (i + t)) m) (p (i + m)) e))
+    passed_same z (passed_more before (omega arith) (e m (omega arith)))
+
+pub passed_many : {p : ℕ → Bool} {n i : ℕ} (m : ℕ) → Passed p n i → i + m ≤ n → every_below (λ t. p (i + t)) m ≡ true → Passed p n (i + m)
+passed_many {p} {n} {i} m w h e = passed_each m w h (λ t. every_at (λ k. p (i + k)) m t e)
 
 -- the first of the n numbers from k on is the end exactly where none of them fails, given that none below k does
 first_end : (p : ℕ → Bool) (n k : ℕ) → every_below p k ≡ true → eqb (first_from p n k) (n + k) ≡ every_below p (n + k)
 unfolding first_from
 first_end p zero k h = let e : 0 + k ≡ k = omega arith in rw e (rw h (eq-eqb k k refl))
-first_end p (suc n) k h = by (p k) refl (λ e. first_end p n (suc k) (every_more p k h e))
+first_end p (suc n) k h = by (p k) refl (λ e. first_end p n (suc k) (rw add-one at (every_next p k h e)))
   where
     by : (b : Bool) → p k ≡ b → (p k ≡ true → eqb (first_from p n (suc k)) (n + suc k) ≡ every_below p (n + suc k))
         → eqb (cond (p k) (first_from p n (suc k)) k) (suc n + k) ≡ every_below p (suc n + k)
@@ -138,6 +135,53 @@ first_end p (suc n) k h = by (p k) refl (λ e. first_end p n (suc k) (every_more
 -- a scan that comes to the end has passed every entry
 pub first_every : (p : ℕ → Bool) (n : ℕ) → eqb (first_from p n 0) n ≡ every_below p n
 first_every p n = let e : n + 0 ≡ n = omega arith in rw e at (first_end p n 0 (every_none p))
+
+-- ---- its place, if there is one
+
+failing_here : {p : ℕ → Bool} {n i : ℕ} → Passed p n i → i < n → p i ≡ false → Some i ≡ first_failing p n
+unfolding first_failing
+failing_here {p} {n} {i} w h e = rw (← first_here w h e, ne_eqb i n (λ (z : i ≡ n). omega arith)) refl
+
+failing_none : {p : ℕ → Bool} {n : ℕ} → Passed p n n → None ≡ first_failing p n
+unfolding first_failing
+failing_none {p} {n} w = rw (← first_none w (omega arith), eq-eqb n n refl) refl
+
+told_none : (b : Bool) (i : ℕ) (r : Bool) → is_some (cond b None (Some i)) ≡ not r → r ≡ b
+told_none true i true e = refl
+told_none true i false e = absurd (true≢false (sym e))
+told_none false i true e = absurd (true≢false e)
+told_none false i false e = refl
+
+-- a scan that finds none has passed every entry
+pub none_failing : (p : ℕ → Bool) (n : ℕ) {o : Option ℕ} {r : Bool} → o ≡ first_failing p n → is_some o ≡ not r → r ≡ every_below p n
+unfolding first_failing
+none_failing p n {r = r} e h = told_none (eqb (first_from p n 0) n) (first_from p n 0) r (rw e at h) ∙ first_every p n
+
+-- what a search of a list for an item that fails the test q tells
+abbrev pub Passes : {A : Type 0} → (A → Bool) → A → Type 0
+Passes q y = q y ≡ true
+
+abbrev pub Fails : {A : Type 0} → (A → Bool) → A → Type 0
+Fails q y = q y ≡ false
+
+abbrev pub Searched : {A : Type 0} → (A → Bool) → List A → Option ℕ → Type 0
+Searched q ys o = MatchOption o (AllWithin (Passes q) ys 0 (length ys)) (λ m. (m < length ys) × HoldsAt (Fails q) ys m × AllWithin (Passes q) ys 0 m)
+
+-- a search of the items from number i on, where those before have passed
+pub searched_from : {A : Type 0} (q : A → Bool) (ys : List A) (d : A) {p : ℕ → Bool} {n i : ℕ} → Passed p n i → i + length ys ≡ n → ((t : ℕ) → t < length ys → p (i + t) ≡ q (get_or ys t d))
+    → (o : Option ℕ) → Searched q ys o → option_map (λ m. i + m) o ≡ first_failing p n
+searched_from q ys d {p} {n} {i} w l e None h = failing_none (passed_same l (passed_each (length ys) w (omega (arith, l)) (λ t k. e t k ∙ h t d (omega arith) k)))
+searched_from q ys d {p} {n} {i} w l e (Some m) h =
+    failing_here (passed_each m w (omega (arith, h.0, l)) (λ t k. e t (omega (arith, h.0, k)) ∙ h.2 t d (omega arith) k)) (omega (arith, h.0, l)) (e m h.0 ∙ h.1 d)
+
+option_same : (o : Option ℕ) → option_map (λ m. 0 + m) o ≡ o
+option_same None = refl
+option_same (Some m) = let e : 0 + m ≡ m = omega arith in rw e refl
+
+-- a search of all items
+pub searched : {A : Type 0} (q : A → Bool) (ys : List A) (d : A) {p : ℕ → Bool} {n : ℕ} → length ys ≡ n → ((t : ℕ) → t < length ys → p t ≡ q (get_or ys t d))
+    → (o : Option ℕ) → Searched q ys o → o ≡ first_failing p n
+searched q ys d {p} {n} l e o h = sym (option_same o) ∙ searched_from q ys d (passed_none p n) (let z : 0 + length ys ≡ n = omega (arith, l) in z) (λ t k. let z : 0 + t ≡ t = omega arith in rw z (e t k)) o h
 
 -- ---- floats
 
@@ -203,76 +247,100 @@ sum_parts (fin s m x) nan e = absurd (true≢false (sym e))
 sum_parts (fin s m x) (inf t) e = absurd (true≢false (sym e))
 sum_parts (fin s m x) (fin t n d) e = (refl, refl)
 
--- eight numbers are finite
-pub record Eight (a b c d e f g h : Float) : Type 0 where
-  pub a0 : finite a ≡ true
-  pub a1 : finite b ≡ true
-  pub a2 : finite c ≡ true
-  pub a3 : finite d ≡ true
-  pub a4 : finite e ≡ true
-  pub a5 : finite f ≡ true
-  pub a6 : finite g ≡ true
-  pub a7 : finite h ≡ true
+-- sums of the n columns of k rows, those before column t of one row more
+pub record Told (rows : List (List Float)) (n k t : ℕ) (sums : List Float) : Type 0 where
+  pub size : length sums ≡ n
+  pub before : (i j : ℕ) → i < k → j < n → finite (at sums j) ≡ true → finite (at (get_or rows i []) j) ≡ true
+  pub here : (j : ℕ) → j < t → finite (at sums j) ≡ true → finite (at (get_or rows k []) j) ≡ true
 
--- the sums a to q tell of the entries before i
-pub record Summed (s : List Float) (i : ℕ) (a b c d e f g h j k l m n o p q : Float) : Type 0 where
-  pub inside : i ≤ length s
-  pub summed : Eight a b c d e f g h → Eight j k l m n o p q → Passed (λ k. finite (at s k)) (length s) i
+pub told_none_yet : (rows : List (List Float)) (n : ℕ) (sums : List Float) → length sums ≡ n → Told rows n 0 0 sums
+told_none_yet rows n sums s = record { size = s; before = λ i j l m e. absurd (omega arith); here = λ j l e. absurd (omega arith) }
 
-pub summed_none : (s : List Float) (a b c d e f g h j k l m n o p q : Float) → Summed s 0 a b c d e f g h j k l m n o p q
-summed_none s a b c d e f g h j k l m n o p q = record { inside = omega arith; summed = λ v w. passed_none _ _ }
+same_or_not : {T : Type 0} (j t : ℕ) → (j ≡ t → T) → ((j ≡ t → ⊥) → T) → T
+same_or_not {T} j t f g = go (dec_lt j t) (dec_lt t j)
+  where
+    go : Dec (j < t) → Dec (t < j) → T
+    go (yes m) b = g (λ e. omega arith)
+    go (no m) (yes n) = g (λ e. omega arith)
+    go (no m) (no n) = f (omega arith)
 
-eight_every : (s : List Float) (i : ℕ) → Eight (at s i) (at s (i + 1)) (at s (i + 2)) (at s (i + 3)) (at s (i + 4)) (at s (i + 5)) (at s (i + 6)) (at s (i + 7)) → every_below (λ t. finite (at s (i + t))) 8 ≡ true
-unfolding every_below
-eight_every s i w =
-    let z : i + 0 ≡ i = omega arith in
-    rw (z, w.a0, w.a1, w.a2, w.a3, w.a4, w.a5, w.a6, w.a7) refl
-
--- sixteen entries more, each added to its sum
-pub summed_more : {s : List Float} {i : ℕ} {a b c d e f g h j k l m n o p q : Float} → Summed s i a b c d e f g h j k l m n o p q → i + 16 ≤ length s
-    → Summed s (i + 16) (a ⊕ at s i) (b ⊕ at s (i + 1)) (c ⊕ at s (i + 2)) (d ⊕ at s (i + 3)) (e ⊕ at s (i + 4)) (f ⊕ at s (i + 5)) (g ⊕ at s (i + 6)) (h ⊕ at s (i + 7)) (j ⊕ at s (i + 8)) (k ⊕ at s (i + 9)) (l ⊕ at s (i + 10)) (m ⊕ at s (i + 11)) (n ⊕ at s (i + 12)) (o ⊕ at s (i + 13)) (p ⊕ at s (i + 14)) (q ⊕ at s (i + 15))
-summed_more {s} {i} {a} {b} {c} {d} {e} {f} {g} {h} {j} {k} {l} {m} {n} {o} {p} {q} w z =
+-- one entry more
+pub told_entry : {rows : List (List Float)} {n k t : ℕ} {sums : List Float} → Told rows n k t sums → t < n → Told rows n k (t + 1) (set sums t (at sums t ⊕ at (get_or rows k []) t))
+told_entry {rows} {n} {k} {t} {sums} w h =
+    let y = at sums t ⊕ at (get_or rows k []) t in
+    let new : at (set sums t y) t ≡ y = get_or-set_same sums t y nan (omega (arith, w.size)) in
+    let old : (j : ℕ) → (j ≡ t → ⊥) → at (set sums t y) j ≡ at sums j = λ j n. get_or-set_other sums t j y nan n in
+    let parts : finite y ≡ true → (finite (at sums t) ≡ true) × (finite (at (get_or rows k []) t) ≡ true) = sum_parts (at sums t) (at (get_or rows k []) t) in
     record {
-      inside = z;
-      summed = λ x y.
-          let p0 = sum_parts a (at s i) x.a0 in
-          let p1 = sum_parts b (at s (i + 1)) x.a1 in
-          let p2 = sum_parts c (at s (i + 2)) x.a2 in
-          let p3 = sum_parts d (at s (i + 3)) x.a3 in
-          let p4 = sum_parts e (at s (i + 4)) x.a4 in
-          let p5 = sum_parts f (at s (i + 5)) x.a5 in
-          let p6 = sum_parts g (at s (i + 6)) x.a6 in
-          let p7 = sum_parts h (at s (i + 7)) x.a7 in
-          let p8 = sum_parts j (at s (i + 8)) y.a0 in
-          let p9 = sum_parts k (at s (i + 9)) y.a1 in
-          let p10 = sum_parts l (at s (i + 10)) y.a2 in
-          let p11 = sum_parts m (at s (i + 11)) y.a3 in
-          let p12 = sum_parts n (at s (i + 12)) y.a4 in
-          let p13 = sum_parts o (at s (i + 13)) y.a5 in
-          let p14 = sum_parts p (at s (i + 14)) y.a6 in
-          let p15 = sum_parts q (at s (i + 15)) y.a7 in
-          let before = w.summed (record { a0 = p0.0; a1 = p1.0; a2 = p2.0; a3 = p3.0; a4 = p4.0; a5 = p5.0; a6 = p6.0; a7 = p7.0 }) (record { a0 = p8.0; a1 = p9.0; a2 = p10.0; a3 = p11.0; a4 = p12.0; a5 = p13.0; a6 = p14.0; a7 = p15.0 }) in
-          let eight = passed_many 8 before (omega (arith, z)) (eight_every s i (record { a0 = p0.1; a1 = p1.1; a2 = p2.1; a3 = p3.1; a4 = p4.1; a5 = p5.1; a6 = p6.1; a7 = p7.1 })) in
-          let e : (k : ℕ) → i + 8 + k ≡ i + (8 + k) = λ k. omega arith in
-          let sixteen : i + 8 + 8 ≡ i + 16 = omega arith in
-          rw sixteen at (passed_many 8 eight (omega (arith, z)) (eight_every s (i + 8) (rw (e 1, e 2, e 3, e 4, e 5, e 6, e 7) (record { a0 = p8.1; a1 = p9.1; a2 = p10.1; a3 = p11.1; a4 = p12.1; a5 = p13.1; a6 = p14.1; a7 = p15.1 }))));
+      size = length-set sums t y ∙ w.size;
+      before = λ i j l m e. same_or_not j t
+          (λ q. w.before i j l m (rw (sym q) at (parts (rw new at (rw q at e))).0))
+          (λ n. w.before i j l m (rw (old j n) at e));
+      here = λ j l e. same_or_not j t
+          (λ q. rw q (parts (rw new at (rw q at e))).1)
+          (λ n. w.here j (omega arith) (rw (old j n) at e));
     }
 
--- the joined sum is finite only if the sixteen are
-four_parts : (a b c d : Float) → finite ((a ⊕ b) ⊕ (c ⊕ d)) ≡ true → (finite a ≡ true) × (finite b ≡ true) × (finite c ≡ true) × (finite d ≡ true)
-four_parts a b c d w =
-    let t = sum_parts (a ⊕ b) (c ⊕ d) w in
-    let l = sum_parts a b t.0 in
-    let r = sum_parts c d t.1 in
-    (l.0, l.1, r.0, r.1)
+-- a whole row
+pub told_row : {rows : List (List Float)} {n k : ℕ} {sums : List Float} → Told rows n k n sums → Told rows n (k + 1) 0 sums
+told_row {rows} {n} {k} {sums} w =
+    record {
+      size = w.size;
+      before = λ i j l m e. same_or_not i k (λ q. rw q (w.here j m e)) (λ n. w.before i j (omega arith) m e);
+      here = λ j l e. absurd (omega arith);
+    }
 
-pub joined_sixteen : (a b c d e f g h j k l m n o p q : Float) → finite ((((a ⊕ c) ⊕ (e ⊕ g)) ⊕ ((j ⊕ l) ⊕ (n ⊕ p))) ⊕ (((b ⊕ d) ⊕ (f ⊕ h)) ⊕ ((k ⊕ m) ⊕ (o ⊕ q)))) ≡ true → Eight a b c d e f g h × Eight j k l m n o p q
-joined_sixteen a b c d e f g h j k l m n o p q w =
-    let t = sum_parts (((a ⊕ c) ⊕ (e ⊕ g)) ⊕ ((j ⊕ l) ⊕ (n ⊕ p))) (((b ⊕ d) ⊕ (f ⊕ h)) ⊕ ((k ⊕ m) ⊕ (o ⊕ q))) w in
-    let u = sum_parts ((a ⊕ c) ⊕ (e ⊕ g)) ((j ⊕ l) ⊕ (n ⊕ p)) t.0 in
-    let v = sum_parts ((b ⊕ d) ⊕ (f ⊕ h)) ((k ⊕ m) ⊕ (o ⊕ q)) t.1 in
-    let x0 = four_parts a c e g u.0 in
-    let x1 = four_parts j l n p u.1 in
-    let y0 = four_parts b d f h v.0 in
-    let y1 = four_parts k m o q v.1 in
-    (record { a0 = x0.0; a1 = y0.0; a2 = x0.1; a3 = y0.1; a4 = x0.2; a5 = y0.2; a6 = x0.3; a7 = y0.3 }, record { a0 = x1.0; a1 = y1.0; a2 = x1.1; a3 = y1.1; a4 = x1.2; a5 = y1.2; a6 = x1.3; a7 = y1.3 })
+pub told_all : {rows : List (List Float)} {n : ℕ} {sums : List Float} → Told rows n (length rows) 0 sums → SumsTell rows n sums
+told_all w = record { size = w.size; parts = w.before }
+
+-- ---- entries n by n
+
+pub chunk_at : {A : Type 0} (n c : ℕ) (xs : List A) (i j : ℕ) (d : A) → i < c → j < n → get_or (get_or (first_chunks n c xs) i []) j d ≡ get_or xs (i * n + j) d
+chunk_at n zero xs i j d h k = absurd (omega arith)
+chunk_at n (suc c) xs zero j d h k = let e : zero * n + j ≡ j = omega arith in rw e (get_or-take n xs j d k)
+chunk_at n (suc c) xs (suc i) j d h k =
+    let s : suc i * n ≡ i * n + n = suc-mul i n in
+    let e : suc i * n + j ≡ n + (i * n + j) = omega (arith, s) in
+    rw e (chunk_at n c (drop n xs) i j d (omega arith) k ∙ get_or-drop n xs (i * n + j) d)
+
+-- entries that were summed twice: by sixteen, and the sums by four
+module _ (s : List Float) (rows quarters : List (List Float)) (sums last : List Float)
+    (e : rows ≡ first_chunks 16 (length s / 16) s) (l : length rows ≡ length s / 16) (w : SumsTell rows 16 sums)
+    (f : quarters ≡ first_chunks 4 (length sums / 4) sums) (m : length quarters ≡ length sums / 4) (v : SumsTell quarters 4 last) where
+  -- the last four sums are finite, and so are the sixteen
+  sum_finite : ((j : ℕ) → j < 4 → finite (at last j) ≡ true) → (t : ℕ) → t < 16 → finite (at sums t) ≡ true
+  sum_finite h t k =
+      let a : t / 4 < length sums / 4 = omega (arith, k, w.size) in
+      let b : t / 4 < length quarters = omega (arith, k, m, w.size) in
+      let c : t % 4 < 4 = omega arith in
+      let p : t / 4 * 4 + t % 4 ≡ t = omega arith in
+      rw (f, chunk_at 4 (length sums / 4) sums (t / 4) (t % 4) nan a c, p) at (v.parts (t / 4) (t % 4) b c (h (t % 4) c))
+
+  entry_finite : ((j : ℕ) → j < 4 → finite (at last j) ≡ true) → (t : ℕ) → t < 16 * length rows → finite (at s (0 + t)) ≡ true
+  entry_finite h t k =
+      let a : t / 16 < length s / 16 = omega (arith, l, k) in
+      let b : t / 16 < length rows = omega (arith, l, k) in
+      let c : t % 16 < 16 = omega arith in
+      let p : t / 16 * 16 + t % 16 ≡ 0 + t = omega arith in
+      rw (e, chunk_at 16 (length s / 16) s (t / 16) (t % 16) nan a c, p) at (w.parts (t / 16) (t % 16) b c (sum_finite h (t % 16) c))
+
+  abbrev pub joined : Float
+  joined = (at last 0 ⊕ at last 2) ⊕ (at last 1 ⊕ at last 3)
+
+  four : finite joined ≡ true → (j : ℕ) → j < 4 → finite (at last j) ≡ true
+  four h zero k = (sum_parts (at last 0) (at last 2) (sum_parts (at last 0 ⊕ at last 2) (at last 1 ⊕ at last 3) h).0).0
+  four h (suc zero) k = (sum_parts (at last 1) (at last 3) (sum_parts (at last 0 ⊕ at last 2) (at last 1 ⊕ at last 3) h).1).0
+  four h (suc (suc zero)) k = (sum_parts (at last 0) (at last 2) (sum_parts (at last 0 ⊕ at last 2) (at last 1 ⊕ at last 3) h).0).1
+  four h (suc (suc (suc zero))) k = (sum_parts (at last 1) (at last 3) (sum_parts (at last 0 ⊕ at last 2) (at last 1 ⊕ at last 3) h).1).1
+  four h (suc (suc (suc (suc j)))) k = absurd (omega arith)
+
+  pub rows_passed : finite joined ≡ true → Passed (λ k. finite (at s k)) (length s) (16 * length rows)
+  rows_passed h =
+      let z : 0 + 16 * length rows ≡ 16 * length rows = omega arith in
+      passed_same z (passed_each (16 * length rows) (passed_none _ _) (omega (arith, l)) (entry_finite (four h)))
+
+-- entries of two numbers
+pub pair_at : (l : List ℤ) (rows : List (List ℤ)) → rows ≡ first_chunks 2 (length l / 2) l → length rows ≡ length l / 2 → (n j : ℕ) → n < length rows → j < 2 → int (get_or rows n []) j ≡ int l (2 * n + j)
+pair_at l rows e s n j h k =
+    let p : n * 2 + j ≡ 2 * n + j = omega arith in
+    rw (e, ← p) (chunk_at 2 (length l / 2) l n j (pos 0) (omega (arith, s, h)) k)

@@ -9,6 +9,7 @@ pub const MOST_VECTORS: usize = 65536;
 
 pub const MOST_LIST: usize = 4096;
 
+// Lowest and highest stand as two constants: a range `a..=b` is refused here, as a call in a constant's value.
 pub const LOWEST_ADDRESS: i64 = -1048576;
 
 pub const HIGHEST_ADDRESS: i64 = 1048576;

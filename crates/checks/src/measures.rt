@@ -4,9 +4,9 @@ ghost use Rattle.phonon.specs.Limits.{list_ok};
 ghost use Rattle.phonon.specs.Refusal.{measures_ok};
 ghost use Rattle.checks.specs.Answers.{measured_of};
 
+use crate::limits;
 use crate::sizes::sizes_of;
 use crate::verdict::require;
-use crate::{is_measured, limits};
 use phonon::{Form, Measures, Refusal, Sizes};
 
 // The atoms are tested by themselves first, so that 3 * atoms fits.
@@ -16,11 +16,11 @@ pub fn measures_ok(m: Measures) -> bool
     if limits::MOST_ATOMS < m.atoms {
         return false;
     }
-    is_measured(1, limits::MOST_ATOMS, m.atoms)
-        & is_measured(1, limits::MOST_SUPERCELL, m.supercell)
-        & is_measured(1, 3 * m.atoms, m.first)
-        & is_measured(1, limits::MOST_GRID, m.grid)
-        & is_measured(1, limits::MOST_VECTORS, m.vectors)
+    (1..=limits::MOST_ATOMS).contains(&m.atoms)
+        & (1..=limits::MOST_SUPERCELL).contains(&m.supercell)
+        & (1..=3 * m.atoms).contains(&m.first)
+        & (1..=limits::MOST_GRID).contains(&m.grid)
+        & (1..=limits::MOST_VECTORS).contains(&m.vectors)
 }
 
 pub fn check_measures(m: Measures, form: Form) -> Result<Sizes, Refusal>
@@ -33,5 +33,5 @@ pub fn check_measures(m: Measures, form: Form) -> Result<Sizes, Refusal>
 pub fn list_ok(list: usize) -> bool
     ensures { result ≡ list_ok list }
 {
-    is_measured(1, limits::MOST_LIST, list)
+    (1..=limits::MOST_LIST).contains(&list)
 }

@@ -6,6 +6,7 @@ ghost use Rattle.checks.specs.Small.{Small};
 use phonon::{Form, Measures, Sizes};
 
 // The rows of the force constants.
+#[tactic(auto, unfolding(phonon::specs::Limits::rows_of))]
 fn rows_of(m: Measures, form: Form) -> usize
     ensures { result ≡ rows_of form m }
 {

@@ -14,6 +14,7 @@ pub fn points_ok(grid: usize, points: &[i64]) -> bool
 }
 
 // 4: the temperature and the weights.
+#[tactic(auto, unfolding(phonon::specs::Refusal::bath_finite, phonon::specs::Tests::all_true, phonon::specs::Tests::all_true_after))]
 pub fn bath_finite(bath: Bath, first: &[f64], second: &[f64]) -> bool
     ensures { result ≡ bath_finite bath first.now second.now }
 {
@@ -22,6 +23,7 @@ pub fn bath_finite(bath: Bath, first: &[f64], second: &[f64]) -> bool
 }
 
 // 7: the cutoff.
+#[tactic(auto, unfolding(phonon::specs::Refusal::cutoff_ok))]
 pub fn cutoff_ok(cutoff: f64) -> bool
     ensures { result ≡ cutoff_ok cutoff }
 {

@@ -15,6 +15,7 @@ use phonon::{Crystal, Grid, Legs, Symmetry, Tables};
 use planes::{index_at, order_at, part_of};
 use real_to_reciprocal::phases::{compute_q_vec, phase, pre_phase};
 
+#[tactic(auto, unfolding(phonon::specs::Trig::in_domain))]
 fn in_domain(x: f64) -> bool
     ensures { result ≡ in_domain x }
 {
@@ -45,6 +46,7 @@ fn legs_phases_ok(q: &Legs<[f64; 3]>, vectors: &[f64], multiplicity: &[i64], ent
 }
 
 // Atom i, with the three q in one order.
+// `Anchored` is asked of three functions: a struct refuses it as a ghost field, since it holds two numbers beside its facts.
 fn pre_phase_ok(q: &Legs<[f64; 3]>, crystal: &Crystal<'_>, atoms: usize, i: usize) -> bool
     requires { (i < atoms)
         × Anchored crystal.now.vectors.now crystal.now.multiplicity.now crystal.now.forces.p2s.now atoms }
@@ -131,10 +133,5 @@ pub fn list_phases_ok(tables: &Tables<'_>, list: usize, triplets: &[i64]) -> boo
     requires { Readable (tables_of tables.now) (list * 3) triplets.now }
     ensures { result ≡ every_below (λ t. points_fine (tables_of tables.now) (part 3 t triplets.now)) list }
 {
-    for t in 0..list {
-        if !phases_ok(tables, part_of(triplets, t, 3)) {
-            return false;
-        }
-    }
-    true
+    (0..list).all(|t| phases_ok(tables, part_of(triplets, t, 3)))
 }

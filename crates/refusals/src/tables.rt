@@ -49,10 +49,11 @@ fn indices_ok(m: Measures, crystal: &Crystal<'_>, bands: &[i64]) -> bool
     checks::all_within(0, last_atom, crystal.forces.p2s)
         & checks::all_within(0, last_atom, crystal.forces.s2p)
         & checks::all_within(0, last_band, bands)
-        & checks::all_ranges(crystal.multiplicity, supercell, atoms, m.vectors)
+        & checks::all_ranges(crystal.multiplicity, m.vectors)
 }
 
 // 4: the cutoff and the tables.
+#[tactic(auto, unfolding(phonon::specs::Refusal::tables_finite, phonon::specs::Tests::all_true, phonon::specs::Tests::all_true_after))]
 fn tables_finite(cutoff: f64, crystal: &Crystal<'_>, phonons: &Phonons<'_>) -> bool
     ensures { result ≡ tables_finite cutoff crystal.now.vectors.now crystal.now.masses.now
         phonons.now.frequencies.now phonons.now.eigenvectors.now crystal.now.forces.constants.now }
@@ -66,6 +67,7 @@ fn tables_finite(cutoff: f64, crystal: &Crystal<'_>, phonons: &Phonons<'_>) -> b
 }
 
 // 5: the mesh, the q matrix and the addresses.
+#[tactic(auto, unfolding(phonon::specs::Refusal::mesh_ok, phonon::specs::Tests::all_true, phonon::specs::Tests::all_true_after))]
 fn mesh_ok(grid: &Grid<'_>) -> bool
     ensures { result ≡ mesh_ok (grid_of grid.now) }
 {

@@ -1,49 +1,21 @@
--- The entries before number j * columns + i are passed: the first to fail from there on is the first of all.
-use Prim.Native.Nat.{◌+◌, ◌*◌, ◌<◌}
-use mathlib.Core.Path.{◌≡◌, sym, ◌∙◌}
-use native.Mathlib.Omega.{arith}
-use borrow.Author.Rules.{rules}
+-- Each entry is tested, up to the first that fails.
+use mathlib.Core.Path.{refl}
+use mathlib.Core.Bool.{Bool}
+use mathlib.Core.List.{List, []}
 use lib.IntN.{ℤ}
-use mir.Val.{to_z, of_z}
-use mir.Syntax.{w64}
+use native.Mathlib.Nat.{add-zero}
+use native.Mathlib.Omega.{arith}
+use Rattle.std.proofs.Common.{rules}
+use Rattle.std.proofs.lemmas.Iterator.{IsFirst-from_position, YieldsList-from_slice}
 use Rattle.phonon.specs.Number.{int}
-use Rattle.phonon.proofs.Laws.{pair_lt}
-use Rattle.checks.proofs.Laws.{passed_more, passed_same, first_here, first_none}
-use Rattle.checks.proofs.first_bad_range.Invariants.{fine}
+use Rattle.phonon.specs.Tests.{vector_range}
+use Rattle.checks.proofs.Laws.{Fails, Passes, searched, pair_at}
 use Rattle.checks.proofs.first_bad_range.Goals as goal
-use Rattle.checks.proofs.first_bad_range.Goals.{In-loop-i, After-vector_range}
 
--- the entry is one of the table
-entry : (c : In-loop-i) → c.rows.j * c.args.columns + c.loop-i.i < c.args.rows * c.args.columns
-entry c = pair_lt c.rows-test.true c.loop-i-test.true
-
--- what the call told of the entry
-tested :
-    (c : After-vector_range) → c.vector_range.result ≡ fine c.args.vectors c.args.table.now (c.rows.j * c.args.columns + c.loop-i.i)
-tested c =
-    let n = c.rows.j * c.args.columns + c.loop-i.i in
-    let a : ℤ = int c.args.table.now (2 * n) in
-    let b : ℤ = int c.args.table.now (2 * n + 1) in
-    let count : to_z w64 (of_z w64 a) ≡ a = search rules in
-    let start : to_z w64 (of_z w64 b) ≡ b = search rules in
-    rw (count, start) at c.vector_range.ensures
-
-pub loop-i-preserved : goal.loop-i-preserved
-loop-i-preserved c =
-    let p = goal.at.loop-i-preserved c in
-    let l = c.loop-i in (
-      search rules,
-      l.invariant.1,
-      passed_same (omega arith)
-          (passed_more l.invariant.2 (entry p.In-loop-i) (sym (tested p.After-vector_range) ∙ c.if-not-vector_range.false)),
-    )
-
-pub returns-after-rows : goal.returns-after-rows
-returns-after-rows c =
-    let all : c.rows.j ≡ c.args.rows = omega arith in
-    c.rows.invariant.1 ∙ first_none (rw all at c.rows.invariant.2) (omega arith)
-
-pub returns-then-not-vector_range : goal.returns-then-not-vector_range
-returns-then-not-vector_range c =
-    let p = goal.at.returns-then-not-vector_range c in
-    first_here c.loop-i.invariant.2 (entry p.In-loop-i) (sym (tested p.After-vector_range) ∙ c.if-not-vector_range.true)
+pub returns : goal.returns
+returns c =
+    let p : List ℤ → Bool = λ e. vector_range c.args.vectors (int e 0) (int e 1) in
+    let rows = c.as_chunks.result.0.now in
+    let a = pair_at c.args.table.now rows c.as_chunks.ensures.front c.as_chunks.ensures.front_len in
+    searched p rows [] c.as_chunks.ensures.front_len (λ t k. rw (a t 0 k (omega arith), a t 1 k (omega arith), add-zero) refl) _
+    (IsFirst-from_position _ _ _ (Fails p) (Passes p) c.position.ensures.ran (YieldsList-from_slice rows cc) (λ x q k. search rules) (λ x q k. search rules))

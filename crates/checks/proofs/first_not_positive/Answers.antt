@@ -1,12 +1,15 @@
--- The entries before i are passed.
-use Rattle.checks.proofs.Laws.{passed_more, first_here, first_none}
+-- Each entry is tested, up to the first that fails.
+use mathlib.Core.Path.{refl}
+use mathlib.Core.Bool.{Bool}
+use lib.Ieee.{Float, lt, nan}
+use Rattle.std.proofs.Common.{rules}
+use Rattle.std.proofs.lemmas.Iterator.{IsFirst-from_position, YieldsList-from_slice}
+use Rattle.phonon.specs.Number.{f0}
+use Rattle.checks.proofs.Laws.{Fails, Passes, searched}
 use Rattle.checks.proofs.first_not_positive.Goals as goal
 
-pub loop-i-preserved : goal.loop-i-preserved
-loop-i-preserved c = passed_more c.loop-i.invariant c.loop-i-test.true c.if-x.true
-
-pub returns-else-x : goal.returns-else-x
-returns-else-x c = first_here c.loop-i.invariant c.loop-i-test.true c.if-x.false
-
 pub returns : goal.returns
-returns c = first_none c.loop-i.invariant c.loop-i-test.false
+returns c =
+    let p : Float → Bool = λ x. lt f0 x in
+    searched p c.args.s.now nan refl (λ t k. refl) _
+    (IsFirst-from_position _ _ _ (Fails p) (Passes p) c.position.ensures.ran (YieldsList-from_slice c.args.s.now cc) (λ x q k. search rules) (λ x q k. search rules))

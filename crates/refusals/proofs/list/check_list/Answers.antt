@@ -33,9 +33,6 @@ pub returns-in_err-require : goal.returns-in_err-require
 unfolding list_refusal
 returns-in_err-require c = turned _ _ _ refl c.list_ok.ensures c.require.ensures c.in_err-require.was c.from_residual-in_err-require.ensures.1
 
-pub check_count-count-requires : goal.check_count-count-requires
-check_count-count-requires c = good_count (goal.at.check_count-count-requires c).In_ok-require
-
 pub overflow_mul-list : goal.overflow_mul-list
 overflow_mul-list c =
     let p = goal.at.overflow_mul-list c in
