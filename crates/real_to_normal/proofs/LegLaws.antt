@@ -26,8 +26,8 @@ module _ (P : ℕ) (eig : List Float) (g : Legs ℕ) {l l₁ l₂ l₃ : List Fl
     (k₀ : SameOutside l l₁ P (P + 2 * (3 * P * (3 * P))))
     (s₁ : (n : ℕ) → n < 3 * P → column_in l₂ (P + 2 * (3 * P * (3 * P))) (3 * P) n ≡ column (3 * P) eig (take P (drop 0 l₁)) g.leg1 n)
     (k₁ : SameOutside l₁ l₂ (P + 2 * (3 * P * (3 * P))) (P + 2 * (3 * P * (3 * P)) + 2 * (3 * P * (3 * P))))
-    (s₂ : (n : ℕ) → n < 3 * P → column_in l₃ (P + 2 * (3 * P * (3 * P)) + 2 * (3 * P * (3 * P))) (3 * P) n ≡ column (3 * P) eig (take P (drop 0 l₂)) g.leg2 n)
-    (k₂ : SameOutside l₂ l₃ (P + 2 * (3 * P * (3 * P)) + 2 * (3 * P * (3 * P))) (P + 2 * (3 * P * (3 * P)) + 2 * (3 * P * (3 * P)) + 2 * (3 * P * (3 * P)))) where
+    (s₂ : (n : ℕ) → n < 3 * P → column_in l₃ (P + 2 * (2 * (3 * P * (3 * P)))) (3 * P) n ≡ column (3 * P) eig (take P (drop 0 l₂)) g.leg2 n)
+    (k₂ : SameOutside l₂ l₃ (P + 2 * (2 * (3 * P * (3 * P)))) (P + 2 * (2 * (3 * P * (3 * P))) + 2 * (3 * P * (3 * P)))) where
   abbrev D : ℕ
   D = 3 * P * (3 * P)
 
@@ -44,9 +44,7 @@ module _ (P : ℕ) (eig : List Float) (g : Legs ℕ) {l l₁ l₂ l₃ : List Fl
   legs_scaled (suc zero) n h p =
       let e : P + 1 * (2 * D) ≡ P + 2 * D = omega arith in
       ap (λ o. column_in l₃ o (3 * P) n) e ∙ column_below k₂ (P + 2 * D) (3 * P) n (omega arith) p ∙ s₁ n p ∙ ap (λ v. column (3 * P) eig v g.leg1 n) inv₁
-  legs_scaled (suc (suc zero)) n h p =
-      let e : P + 2 * (2 * D) ≡ P + 2 * D + 2 * D = omega arith in
-      ap (λ o. column_in l₃ o (3 * P) n) e ∙ s₂ n p ∙ ap (λ v. column (3 * P) eig v g.leg2 n) inv₂
+  legs_scaled (suc (suc zero)) n h p = s₂ n p ∙ ap (λ v. column (3 * P) eig v g.leg2 n) inv₂
   legs_scaled (suc (suc (suc x))) n h p = absurd (omega arith)
 
   pub legs_outside : SameOutside l l₃ P (columns_at P 3)

@@ -2,48 +2,32 @@
 ghost use Rattle.std.specs.Prelude.{◌≡◌, ℕ, ◌+◌, ◌*◌, ◌<◌, ◌≤◌, length, take, drop};
 ghost use Rattle.phonon.specs.Handed.{tables_of};
 ghost use Rattle.phonon.specs.Interaction.{leg};
-ghost use Rattle.phonon.specs.RealToReciprocal.{phase_factors};
 ghost use Rattle.phonon.specs.ReciprocalToNormal.{column};
 ghost use Rattle.planes.specs.Region.{SameOutside};
-ghost use Rattle.planes.specs.Layout.{column_in, numbers_in};
+ghost use Rattle.planes.specs.Layout.{column_in};
 ghost use Rattle.real_to_reciprocal.specs.Shape.{Ranged};
-ghost use Rattle.real_to_normal.specs.Work.{columns_at, factors_at, pre_at, legs_end, Eigenvectors, Prepared};
+ghost use Rattle.real_to_normal.specs.Work.{columns_at, legs_end, places, Eigenvectors, Prepared};
 
-use phonon::{Crystal, Legs, Tables};
+use crate::layout::Layout;
+use phonon::{Legs, Tables};
 use real_to_reciprocal::phases::phase_factors;
 use reciprocal_to_normal::scale::{inverse_roots, scale_eigenvectors};
 
 // The eigenvectors at the legs' grid points g, scaled by the inverse roots at the start of w.
 #[tactic(auto, using(crate::proofs::LegLaws::legs_scaled, crate::proofs::LegLaws::legs_outside))]
-fn scale_legs(w: &mut [f64], eigenvectors: &[f64], np: usize, g: Legs<usize>)
-    requires { (np ≤ 1000) × (columns_at np 3 ≤ length w.old) × Eigenvectors (3 * np) eigenvectors.now g }
+fn scale_legs(w: &mut [f64], at: Legs<usize>, eigenvectors: &[f64], np: usize, g: Legs<usize>)
+    requires { (np ≤ 1000)
+        × (at ≡ places np (2 * (3 * np * (3 * np))))
+        × (columns_at np 3 ≤ length w.old)
+        × Eigenvectors (3 * np) eigenvectors.now g }
     ensures { ((x n : ℕ) → x < 3 → n < 3 * np
         → column_in w.new (columns_at np x) (3 * np) n
         ≡ column (3 * np) eigenvectors.now (take np (drop 0 w.old)) (leg g x) n)
         × SameOutside w.old w.new np (columns_at np 3) }
 {
-    let d = 3 * np * (3 * np);
-    let e1 = np + 2 * d;
-    let e2 = e1 + 2 * d;
-    scale_eigenvectors(w, np, 0, eigenvectors, np, g.leg0);
-    scale_eigenvectors(w, e1, 0, eigenvectors, np, g.leg1);
-    scale_eigenvectors(w, e2, 0, eigenvectors, np, g.leg2);
-}
-
-// The phase factors of the three legs' q.
-#[tactic(auto, using(crate::proofs::LegLaws::legs_factored, crate::proofs::LegLaws::factored_outside))]
-fn factor_legs(w: &mut [f64], q: &Legs<[f64; 3]>, crystal: &Crystal<'_>, np: usize, ns: usize)
-    requires { (np ≤ 1000)
-        × (ns ≤ 1000)
-        × (pre_at np ns ≤ length w.old)
-        × Ranged crystal.now.vectors.now crystal.now.multiplicity.now (ns * np) }
-    ensures { ((x : ℕ) → x < 3
-        → numbers_in w.new (factors_at np ns x) (np * ns) (np * ns)
-        ≡ phase_factors np ns crystal.now.vectors.now crystal.now.multiplicity.now (leg q.now x))
-        × SameOutside w.old w.new (columns_at np 3) (pre_at np ns) }
-{
-    let d = 3 * np * (3 * np);
-    phase_factors(w, np + 3 * (2 * d), q, crystal, np, ns);
+    scale_eigenvectors(w, at.leg0, 0, eigenvectors, np, g.leg0);
+    scale_eigenvectors(w, at.leg1, 0, eigenvectors, np, g.leg1);
+    scale_eigenvectors(w, at.leg2, 0, eigenvectors, np, g.leg2);
 }
 
 // All that the legs give: inverse roots, scaled eigenvectors, phase factors.
@@ -59,7 +43,15 @@ pub fn prepare(w: &mut [f64], tables: &Tables<'_>, q: &Legs<[f64; 3]>, g: Legs<u
         × SameOutside w.old w.new 0 (legs_end tables.now.measures) }
 {
     let np = tables.measures.atoms;
+    let at = Layout::of(tables.measures);
     inverse_roots(w, 0, tables.crystal.masses, np);
-    scale_legs(w, tables.phonons.eigenvectors, np, g);
-    factor_legs(w, q, &tables.crystal, np, tables.measures.supercell);
+    scale_legs(w, at.columns, tables.phonons.eigenvectors, np, g);
+    phase_factors(
+        w,
+        at.factors.leg0,
+        q,
+        &tables.crystal,
+        np,
+        tables.measures.supercell,
+    );
 }

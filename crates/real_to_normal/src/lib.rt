@@ -1,6 +1,7 @@
 // real_to_normal and real_to_normal_sym_q of interaction.rs: the strengths of one triplet of an accepted set.
 #![tactic(auto)]
 
+pub mod layout;
 pub mod legs;
 pub mod order;
 pub mod plain;

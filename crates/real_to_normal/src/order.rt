@@ -1,11 +1,12 @@
 // One leg order of one triplet: the legs picked in this order, and the force constants in reciprocal space.
-ghost use Rattle.std.specs.Prelude.{◌≡◌, ◌+◌, ◌*◌, ◌^◌, ◌<◌, ◌≤◌, length, get_or};
+ghost use Rattle.std.specs.Prelude.{◌≡◌, ◌≤◌, length, get_or};
 ghost use Rattle.phonon.specs.Handed.{tables_of};
 ghost use Rattle.phonon.specs.Sets.{part};
 ghost use Rattle.planes.specs.Region.{SameOutside};
 ghost use Rattle.planes.specs.Layout.{constants_in};
-ghost use Rattle.real_to_normal.specs.Work.{pre_at, constants_at, scratch_at, places, Shapes, Frequencies, Order, Factored, picked, reciprocal_of};
+ghost use Rattle.real_to_normal.specs.Work.{pre_at, constants_at, scratch_at, Shapes, Frequencies, Order, Factored, picked, reciprocal_of};
 
+use crate::layout::Layout;
 use phonon::{Legs, Tables};
 use planes::part_of;
 use real_to_reciprocal::phases::pre_phase_factors;
@@ -19,18 +20,6 @@ pub fn picked<T: Copy>(legs: &Legs<T>, order: [usize; 3]) -> Legs<T>
         leg0: legs.leg(order[0]),
         leg1: legs.leg(order[1]),
         leg2: legs.leg(order[2]),
-    }
-}
-
-// Where each leg's numbers begin, of `size` numbers a leg from `base` on.
-pub fn places(base: usize, size: usize) -> Legs<usize>
-    requires { base + 3 * size < 2 ^ 64 }
-    ensures { result ≡ places base size }
-{
-    Legs {
-        leg0: base,
-        leg1: base + size,
-        leg2: base + 2 * size,
     }
 }
 
@@ -60,23 +49,18 @@ pub fn order_constants(w: &mut [f64], tables: &Tables<'_>, q: &Legs<[f64; 3]>, o
         (scratch_at tables.now.measures.atoms tables.now.measures.supercell) }
 {
     let np = tables.measures.atoms;
-    let ns = tables.measures.supercell;
-    let d = 3 * np * (3 * np);
-    let n = 2 * (np * ns);
-    let f0 = np + 3 * (2 * d);
-    let po = f0 + 3 * n;
-    let fo = po + 2 * np;
-    let f = picked(&places(f0, n), order);
+    let at = Layout::of(tables.measures);
+    let f = picked(&at.factors, order);
     let p = picked(q, order);
-    pre_phase_factors(w, po, &p, &tables.crystal, np);
+    pre_phase_factors(w, at.pre, &p, &tables.crystal, np);
     real_to_reciprocal(
         w,
-        fo,
-        po,
+        at.constants,
+        at.pre,
         f,
         tables.settings.anchoring,
         &tables.crystal.forces,
         np,
-        ns,
+        tables.measures.supercell,
     );
 }

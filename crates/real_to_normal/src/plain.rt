@@ -6,7 +6,8 @@ ghost use Rattle.phonon.specs.ReciprocalToNormal.{strength};
 ghost use Rattle.planes.specs.Region.{SameOutside};
 ghost use Rattle.real_to_normal.specs.Work.{legs_end, work_end, slot_count, Shapes, Frequencies, Slots, Factored, reciprocal_of, slot_in};
 
-use crate::order::{frequencies_of, order_constants, places};
+use crate::layout::Layout;
+use crate::order::{frequencies_of, order_constants};
 use phonon::{Legs, Tables};
 use reciprocal_to_normal::slots::reciprocal_to_normal_squared;
 
@@ -31,21 +32,16 @@ pub fn real_to_normal(
         × SameOutside w.old w.new (legs_end tables.now.measures) (work_end tables.now.measures) }
 {
     let np = tables.measures.atoms;
-    let ns = tables.measures.supercell;
-    let nb = 3 * np;
-    let d = nb * nb;
-    let fo = np + 3 * (2 * d) + 3 * (2 * (np * ns)) + 2 * np;
-    let so = fo + 2 * (nb * d);
-    let e = places(np, 2 * d);
-    let f = frequencies_of(tables.phonons.frequencies, g, nb);
+    let at = Layout::of(tables.measures);
+    let f = frequencies_of(tables.phonons.frequencies, g, 3 * np);
     order_constants(w, tables, q, [0, 1, 2]);
     reciprocal_to_normal_squared(
         out,
         flags,
         w,
-        fo,
-        e,
-        so,
+        at.constants,
+        at.columns,
+        at.scratch,
         f,
         tables.bands,
         np,

@@ -6,7 +6,8 @@ ghost use Rattle.phonon.specs.ReciprocalToNormal.{strength};
 ghost use Rattle.planes.specs.Region.{SameOutside};
 ghost use Rattle.real_to_normal.specs.Work.{legs_end, work_end, slot_count, Shapes, Frequencies, Slots, Order, Factored, picked, reciprocal_of, slot_in, sixth_of};
 
-use crate::order::{frequencies_of, order_constants, picked, places};
+use crate::layout::Layout;
+use crate::order::{frequencies_of, order_constants, picked};
 use phonon::{Legs, Tables};
 use planes::order_at;
 use reciprocal_to_normal::gather::gather_sixth;
@@ -38,20 +39,25 @@ fn add_order(
         × SameOutside w.old w.new (legs_end tables.now.measures) (work_end tables.now.measures) }
 {
     let np = tables.measures.atoms;
-    let ns = tables.measures.supercell;
-    let nb = 3 * np;
-    let d = nb * nb;
-    let fo = np + 3 * (2 * d) + 3 * (2 * (np * ns)) + 2 * np;
-    let so = fo + 2 * (nb * d);
-    let to = so + 2 * d + 4 * nb;
-    let e = picked(&places(np, 2 * d), order);
-    let f = frequencies_of(tables.phonons.frequencies, picked(&g, order), nb);
+    let at = Layout::of(tables.measures);
+    let e = picked(&at.columns, order);
+    let f = frequencies_of(tables.phonons.frequencies, picked(&g, order), 3 * np);
     order_constants(w, tables, q, order);
-    full_strengths(w, to, fo, e, so, f, np, tables.settings.cutoff);
-    gather_sixth(out, flags, w, to, order, tables.bands, np);
+    full_strengths(
+        w,
+        at.listing,
+        at.constants,
+        e,
+        at.scratch,
+        f,
+        np,
+        tables.settings.cutoff,
+    );
+    gather_sixth(out, flags, w, at.listing, order, tables.bands, np);
 }
 
-// All slots 0.0, and then to each that is not flagged a sixth of its strength in each of the six orders, in turn.
+// All slots 0.0, and then to each that is not flagged a sixth of its strength in each of the six orders, in turn: by its number, as the
+// definition counts them, since their table stays with planes.
 pub fn real_to_normal_sym_q(
     out: &mut [f64],
     flags: &[u8],

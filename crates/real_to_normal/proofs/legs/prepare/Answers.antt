@@ -2,7 +2,7 @@
 use Prim.Native.Nat.{◌≤◌}
 use lib.ListN.{length}
 use Rattle.phonon.specs.Handed.{tables_of}
-use Rattle.real_to_normal.proofs.LegLaws.{prepared, prepared_outside}
+use Rattle.real_to_normal.proofs.LegLaws.{legs_factored, factored_outside, prepared, prepared_outside}
 use native.Mathlib.Omega.{arith}
 use Rattle.real_to_normal.proofs.legs.prepare.Goals as goal
 
@@ -13,7 +13,9 @@ returns c =
     let room : a.tables.now.measures.atoms ≤ length a.w.now = omega (arith, c.requires.sizes) in
     let r = c.inverse_roots.ensures in
     let s = c.scale_legs.ensures in
-    let f = c.factor_legs.ensures in (
-      prepared t a.g a.q.now room r s.0 s.1 f.0 f.1,
-      prepared_outside t a.g a.q.now room r s.0 s.1 f.0 f.1,
+    let k = rw c.of-at.ensures.1 at c.phase_factors.ensures in
+    let f = legs_factored a.tables.now.measures.atoms a.tables.now.measures.supercell t.crystal.vectors t.crystal.multiplicity a.q.now k in
+    let o = factored_outside a.tables.now.measures.atoms a.tables.now.measures.supercell t.crystal.vectors t.crystal.multiplicity a.q.now k in (
+      prepared t a.g a.q.now room r s.0 s.1 f o,
+      prepared_outside t a.g a.q.now room r s.0 s.1 f o,
     )

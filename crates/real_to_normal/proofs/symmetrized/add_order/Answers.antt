@@ -14,8 +14,10 @@ returns c =
     let p = c.requires in
     let f = c.frequencies_of-f.ensures in
     let o = c.order_constants.ensures in
-    let s = c.full_strengths.ensures in (
+    let l = c.of-at.ensures in
+    let s = rw (l.3, l.4, l.5) at c.full_strengths.ensures in
+    let r = rw l.5 at c.gather_sixth.ensures in (
       order_gathered m.atoms m.supercell t.phonons.frequencies a.g o.1 (columns_pre m.atoms m.supercell) a.order t.bands a.flags.now a.out.now _ t.settings.cutoff (constants_at m.atoms m.supercell)
-          (scratch_at m.atoms m.supercell) (listing_at m.atoms m.supercell) p.sizes.0 p.slots.bands o.0 p.legs c.places.ensures c.picked-e.ensures c.picked.ensures f.0.0 f.1.0 f.2.0 s c.gather_sixth.ensures,
+          (scratch_at m.atoms m.supercell) (listing_at m.atoms m.supercell) p.sizes.0 p.slots.bands o.0 p.legs l.0 c.picked-e.ensures c.picked.ensures f.0.0 f.1.0 f.2.0 s r,
       outside_listing m.atoms m.supercell o.1 (outside_above s),
     )
