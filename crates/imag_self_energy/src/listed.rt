@@ -100,8 +100,7 @@ fn fill_factors(later: &Later<'_>, factors: &mut [Factor])
     }
 }
 
-// What the term of each place of a list adds up to, in its order. Laid into its callers, so that no turn loads anew what the term holds.
-#[inline(always)]
+// What the term of each place of a list adds up to, in its order.
 fn sum_of<F: Fn(usize) -> f64>(list: &[u16], term: F) -> f64
     requires { (i : ℕ) → i < length list.now → F.pre term (get_or list.now i 0) }
     ensures { (h : ℕ → Float) → ((i : ℕ) (r : Float) → i < length list.now → F.post term (get_or list.now i 0) r → r ≡ h (get_or list.now i 0))
