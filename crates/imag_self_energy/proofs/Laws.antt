@@ -4,13 +4,13 @@ use native.Mathlib.Nat.{mul-le-mul_right, mul_assoc, one-mul, eq-or-lt_of_le}
 use native.Mathlib.Omega.{arith}
 use mathlib.Core.Path.{◌≡◌, refl, sym, ap, ◌∙◌}
 use mathlib.Core.Bool.{Bool, true, false, not, ◌&&◌, cond, not-not}
-use mathlib.Core.List.{List, [], ◌∷◌, ◌++◌, map}
+use mathlib.Core.List.{List, [], ◌∷◌, map}
 use mathlib.Core.Logic.{⊎_elim}
 use lib.Dec.{eqb}
 use lib.Ieee.{Float, nan, lt}
-use lib.ListN.{get_or, length, set, length-set, take}
+use lib.ListN.{get_or, length, set, length-set}
 use Rattle.std.proofs.lemmas.List.{length-map}
-use lib.Seq.{take-append_seam, get_or-set_same, get_or-set_other, ext_get_or}
+use lib.Seq.{get_or-set_same, get_or-set_other, ext_get_or}
 use Rattle.phonon.specs.declared.Band.{Band}
 use Rattle.phonon.specs.declared.Weights.{Weights}
 use Rattle.phonon.specs.declared.Weights.TheVariants.{PerSlot, AtFrequencyPoint}
@@ -124,9 +124,6 @@ pub record BothHeld (h : Shared) (leg1 leg2 : List Float) (m n : ℕ) (seconds t
   pub second : Held h leg1 n seconds
   pub third : Held h leg2 n thirds
 
-pub both_none : (h : Shared) (leg1 leg2 : List Float) {m : ℕ} (seconds thirds : List Band) → length seconds ≡ m → length thirds ≡ m → BothHeld h leg1 leg2 m 0 seconds thirds
-both_none h leg1 leg2 seconds thirds p q = record { room2 = p; room3 = q; second = filled_none _ _; third = filled_none _ _ }
-
 pub both_step : {h : Shared} {leg1 leg2 : List Float} {m n : ℕ} {seconds thirds : List Band} {x y : Float} → BothHeld h leg1 leg2 m n seconds thirds → n < m
     → x ≡ marked h.temperature h.cutoff (at leg1 n) → y ≡ marked h.temperature h.cutoff (at leg2 n)
     → BothHeld h leg1 leg2 m (n + 1) (set seconds n (record { frequency = at leg1 n; occupation = x })) (set thirds n (record { frequency = at leg2 n; occupation = y }))
@@ -150,18 +147,6 @@ held_whole h leg {bands} e w =
 pub both_whole : {h : Shared} {leg1 leg2 : List Float} {seconds thirds : List Band} → length leg2 ≡ length leg1 → BothHeld h leg1 leg2 (length leg1) (length leg1) seconds thirds
     → (seconds ≡ leg_bands h leg1) × (thirds ≡ leg_bands h leg2)
 both_whole {h} {leg1} {leg2} e w = (held_whole h leg1 w.room2 w.second, held_whole h leg2 (w.room3 ∙ sym e) (rw e w.third))
-
-leg_length : (h : Shared) (leg : List Float) → length (leg_bands h leg) ≡ length leg
-unfolding leg_bands
-leg_length h leg = length-map leg (band_of h)
-
--- at the front of an array of bands
-pub front_bands : (h : Shared) {n : ℕ} (leg : List Float) {bands : List Band} (rest : List Band) → bands ≡ leg_bands h leg → length leg ≡ n → take n (bands ++ rest) ≡ leg_bands h leg
-front_bands h {n} leg rest e l =
-    let whole : length (leg_bands h leg) ≡ n = leg_length h leg ∙ l in rw (e, ← whole) (take-append_seam (leg_bands h leg) rest)
-
-pub front_length : (h : Shared) {n : ℕ} (leg : List Float) {bands : List Band} → bands ≡ leg_bands h leg → length leg ≡ n → length bands ≡ n
-front_length h leg e l = ap length e ∙ leg_length h leg ∙ l
 
 -- ---- loops that sum
 

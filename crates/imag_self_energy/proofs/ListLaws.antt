@@ -114,9 +114,6 @@ pub record Cells {A : Type 0} (n j k : ℕ) (f : ℕ → ℕ → A) (l : List A)
   pub rows : (a b : ℕ) → a < j → b < n → (d : A) → get_or l (a * n + b) d ≡ f a b
   pub row : (b : ℕ) → b < k → (d : A) → get_or l (j * n + b) d ≡ f j b
 
-pub cells_none : {A : Type 0} (n : ℕ) (f : ℕ → ℕ → A) (l : List A) → Cells n 0 0 f l
-cells_none n f l = record { rows = λ a b p q d. absurd (omega arith); row = λ b p d. absurd (omega arith) }
-
 pub cells_step : {A : Type 0} {n j k : ℕ} {f : ℕ → ℕ → A} {l : List A} (x : A) → Cells n j k f l → k < n → j * n + k < length l → x ≡ f j k → Cells n j (k + 1) f (set l (j * n + k) x)
 cells_step {A} {n} {j} {k} {f} {l} x w p h e =
     record {
@@ -149,12 +146,6 @@ pub record Room (n j k : ℕ) : Type 0 where
 
 pub room_of : {n j k : ℕ} → n ≤ most_bands → j < n → k < n → Room n j k
 room_of h p q = record { inside = pair_lt p q; before = pair_lt q p; few = mul-le-mul h h }
-
-pub place_below : (area c : ℕ) {o l : ℕ} → o < area → (c + 1) * area ≤ l → (c * area ≤ l) × (c * area + o < l)
-place_below area c {o} {l} p h =
-    let q : c < c + 1 = omega arith in
-    let s : c * area + o < (c + 1) * area = pair_lt q p in
-    (omega arith, omega arith)
 
 slot_place : (n c j k : ℕ) → c * (n * n) + (j * n + k) ≡ slot n c j k
 slot_place n c j k = omega (arith, add-mul (c * n) j n, mul_assoc c n n)
@@ -200,12 +191,12 @@ module _ (h : Shared) (n c b : ℕ) (seconds thirds : List Band) (flags : List �
 pub listed_totals_are : (s : Slots) (seconds thirds : List Band) (list : List ℕ) (m : ℕ) (factors : List Factor) {F : ℕ} {r : List Float} → length seconds ≡ s.bands → F ≡ s.positions
     → Listed (length seconds * length seconds) (pair_walk s.shared.cutoff (length seconds) seconds thirds) list m
     → Factors (length seconds) seconds thirds factors
-    → r ≡ table F (λ b. pair_total s.shared (s.bands * s.bands) (length (take m list)) (take m list) s.flags.now s.first.now s.second.now s.strengths.now factors (block s.weights b) b)
+    → r ≡ table F (λ b. pair_total s.shared (s.bands * s.bands) (length (take m list)) (take m list) s.flags.now s.integration.first.now s.integration.second.now s.strengths.now factors (block s.weights b) b)
     → r ≡ band_totals s seconds thirds
 listed_totals_are s seconds thirds list m factors n e p f t =
     rw e at t
     ∙ table_ext s.positions _ _
-    (λ b q. pair_total_lem s.shared s.bands (block s.weights b) b seconds thirds s.flags.now s.first.now s.second.now s.strengths.now factors (rw n at f) (take m list) (length (take m list))
+    (λ b q. pair_total_lem s.shared s.bands (block s.weights b) b seconds thirds s.flags.now s.integration.first.now s.integration.second.now s.strengths.now factors (rw n at f) (take m list) (length (take m list))
     (listed_front list m (rw n at p)))
 
 -- the sum over the unflagged of the pairs is the walk over them, of the block that position b reads

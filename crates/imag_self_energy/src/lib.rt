@@ -13,6 +13,7 @@ ghost use Rattle.phonon.specs.Number.{index, int};
 ghost use Rattle.phonon.specs.ImagSelfEnergy as Ise;
 ghost use Rattle.phonon.specs.Doors.{TotalsOutcome, totals_outcome};
 ghost use Rattle.imag_self_energy.specs.Bands.{Sized};
+ghost use Rattle.imag_self_energy.specs.Totals.{sum_of};
 
 use crate::check::check;
 use crate::listed::listed_totals;
@@ -33,7 +34,7 @@ const FEW_BANDS: usize = 12;
 const FEW_PLACES: usize = FEW_BANDS * FEW_BANDS;
 
 // The most bands that are summed with no lists. They have arrays of their own: to fill those of MOST_BANDS takes 6 % of
-// the time of totals alone with one atom.
+// the time of totals alone with one atom. An ArrayVec fills its unused places as well.
 const PLAIN_BANDS: usize = 6;
 
 // What an array of bands holds before it is filled. An occupation of -1.0 is document 01's mark of a band that has none.
@@ -50,64 +51,56 @@ struct Shared {
     weight: f64,
 }
 
-// The totals of one triplet, of bands = B. There are as many as totals is long.
-pub fn write_totals(
-    weights: Weights,
-    bands: usize,
-    triplet: [i64; 3],
-    frequencies: &[f64],
-    cutoff: f64,
-    flags: &[u8],
-    integration: IntegrationWeights<'_>,
-    bath: Bath,
-    strengths: &[f64],
-    totals: &mut [f64],
-)
-    requires { Sized weights bands (length totals.old) flags.now integration.first.now integration.second.now strengths.now
-        × ((index (int triplet 1) + 1) * bands ≤ length frequencies.now)
-        × ((index (int triplet 2) + 1) * bands ≤ length frequencies.now) }
-    ensures { totals.new ≡ Ise.totals (length totals.old)
-        (record {
-          weights = weights;
-          bands = bands;
-          points = triplet;
-          frequencies = frequencies.now;
-          cutoff = cutoff;
-          flags = flags.now;
-          weight = bath.weight;
-          first = integration.entry.first.now;
-          second = integration.entry.second.now;
-        }) bath.temperature strengths.now }
+// What the totals of one triplet are sums over, beside its strengths: the definition's Sum, and the bath.
+#[derive(Clone, Copy)]
+pub struct Sum<'a> {
+    pub weights: Weights,
+    pub bands: usize,
+    pub points: [i64; 3],
+    pub frequencies: &'a [f64],
+    pub cutoff: f64,
+    pub flags: &'a [u8],
+    pub bath: Bath,
+    pub integration: IntegrationWeights<'a>,
+}
+
+// The totals of one triplet. There are as many as totals is long.
+pub fn write_totals(sum: &Sum<'_>, strengths: &[f64], totals: &mut [f64])
+    requires { Sized sum.now.weights sum.now.bands (length totals.old) sum.now.flags.now
+        sum.now.integration.first.now sum.now.integration.second.now strengths.now
+        × ((index (int sum.now.points 1) + 1) * sum.now.bands ≤ length sum.now.frequencies.now)
+        × ((index (int sum.now.points 2) + 1) * sum.now.bands ≤ length sum.now.frequencies.now) }
+    ensures { totals.new ≡ Ise.totals (length totals.old) (sum_of sum.now) sum.now.bath.temperature strengths.now }
 {
-    let g1 = index_of(triplet[1]);
-    let g2 = index_of(triplet[2]);
-    let leg1 = part_of(frequencies, g1, bands);
-    let leg2 = part_of(frequencies, g2, bands);
+    let g1 = index_of(sum.points[1]);
+    let g2 = index_of(sum.points[2]);
+    let leg1 = part_of(sum.frequencies, g1, sum.bands);
+    let leg2 = part_of(sum.frequencies, g2, sum.bands);
     let shared = Shared {
-        temperature: bath.temperature,
-        cutoff,
-        weight: float_of(bath.weight),
+        temperature: sum.bath.temperature,
+        cutoff: sum.cutoff,
+        weight: float_of(sum.bath.weight),
     };
     let slots = Slots {
         shared,
-        weights,
+        weights: sum.weights,
         positions: totals.len(),
-        bands,
-        flags,
-        first: integration.first,
-        second: integration.second,
+        bands: sum.bands,
+        flags: sum.flags,
+        integration: sum.integration,
         strengths,
     };
-    if bands <= PLAIN_BANDS {
+    if sum.bands <= PLAIN_BANDS {
         plain_totals(&slots, leg1, leg2, totals);
-    } else if bands <= FEW_BANDS {
+    } else if sum.bands <= FEW_BANDS {
         listed_totals::<FEW_BANDS, FEW_PLACES>(&slots, leg1, leg2, totals);
     } else {
         listed_totals::<MOST_BANDS, MOST_PLACES>(&slots, leg1, leg2, totals);
     }
 }
 
-// Totals alone: document 01's third door.
+// Totals alone: document 01's third door. It is handed what document 01 lists, here and in its tests: no other door is handed the same, so
+// that a struct of it would be made for this one call.
 pub fn imag_self_energy_at_triplet(
     m: TotalsMeasures,
     weights: Weights,
@@ -147,17 +140,16 @@ pub fn imag_self_energy_at_triplet(
         integration,
         totals,
     )?;
-    write_totals(
+    let sum = Sum {
         weights,
-        3 * m.atoms,
-        triplet,
+        bands: 3 * m.atoms,
+        points: triplet,
         frequencies,
         cutoff,
         flags,
-        integration,
         bath,
-        strengths,
-        totals,
-    );
+        integration,
+    };
+    write_totals(&sum, strengths, totals);
     Ok(())
 }

@@ -1,15 +1,15 @@
 // The totals by lists of the slots that count: pair (j, k) of n bands has place j * n + k, and slot (b, j, k) is
 // b * (n * n) behind it. A place is written behind a list, to stay or not: by a branch half of them would be guessed
-// wrong.
-ghost use Rattle.std.specs.Prelude.{◌≡◌, ◌+◌, ◌*◌, ◌≤◌, length, get_or};
+// wrong. So a list is an array and a count, and no ArrayVec, which has nothing behind its end.
+ghost use Rattle.std.specs.Prelude.{◌≡◌, ℕ, Float, ◌+◌, ◌*◌, ◌<◌, ◌≤◌, length, get_or};
 ghost use Rattle.phonon.specs.Number.{◌⊕◌, f0, fold, table};
 ghost use Rattle.phonon.specs.ImagSelfEnergy.{block};
 ghost use Rattle.imag_self_energy.specs.Bands.{most_bands, leg_bands};
-ghost use Rattle.imag_self_energy.specs.Lists.{Places, Listed, pair_walk, unflagged_walk, Factors, warm_term, cold_term, place_term, pair_total};
+ghost use Rattle.imag_self_energy.specs.Lists.{Places, Listed, pair_walk, unflagged_walk, Factors, place_term, pair_total};
 ghost use Rattle.imag_self_energy.specs.Totals.{band_totals};
 
 use crate::NO_BAND;
-use crate::occupations::fill_bands;
+use crate::occupations::later_bands;
 use crate::slots::{Later, Slots};
 use planes::part_of;
 
@@ -100,36 +100,15 @@ fn fill_factors(later: &Later<'_>, factors: &mut [Factor])
     }
 }
 
-// Above temperature 0: the listed slots of a block, of first weights x, second weights y and strengths v.
-#[tactic(auto, unfolding(phonon::specs::Number::fold))]
-fn sum_warm(weight: f64, list: &[u16], factors: &[Factor], x: &[f64], y: &[f64], v: &[f64]) -> f64
-    requires { Places (length v.now) list.now (length list.now)
-        × (length v.now ≤ length factors.now)
-        × (length v.now ≤ length x.now)
-        × (length v.now ≤ length y.now) }
-    ensures { result ≡ fold (length list.now) f0
-        (λ i t. t ⊕ warm_term weight factors.now x.now y.now
-        v.now (get_or list.now i 0)) }
+// What the term of each place of a list adds up to, in its order.
+fn sum_of<F: Fn(usize) -> f64>(list: &[u16], term: F) -> f64
+    requires { (i : ℕ) → i < length list.now → F.pre term (get_or list.now i 0) }
+    ensures { (h : ℕ → Float) → ((i : ℕ) (r : Float) → i < length list.now → F.post term (get_or list.now i 0) r → r ≡ h (get_or list.now i 0))
+        → result ≡ fold (length list.now) f0 (λ i t. t ⊕ h (get_or list.now i 0)) }
 {
     let mut total = 0.0;
     for place in list {
-        let o = usize::from(*place);
-        let f = factors[o];
-        total += (f.sum * x[o] + f.difference * y[o]) * v[o] * weight;
-    }
-    total
-}
-
-// At temperature 0.
-#[tactic(auto, using(crate::proofs::Laws::turn), unfolding(crate::specs::Lists::cold_term, phonon::specs::Number::fold))]
-fn sum_cold(weight: f64, list: &[u16], x: &[f64], v: &[f64]) -> f64
-    requires { Places (length v.now) list.now (length list.now) × (length v.now ≤ length x.now) }
-    ensures { result ≡ fold (length list.now) f0 (λ i t. t ⊕ cold_term weight x.now v.now (get_or list.now i 0)) }
-{
-    let mut total = 0.0;
-    for place in list {
-        let o = usize::from(*place);
-        total += x[o] * v[o] * weight;
+        total += term(usize::from(*place));
     }
     total
 }
@@ -139,22 +118,25 @@ fn sum_cold(weight: f64, list: &[u16], x: &[f64], v: &[f64]) -> f64
 fn sum_listed(slots: &Slots<'_>, list: &[u16], factors: &[Factor], c: usize, b: usize) -> f64
     requires { Places (slots.now.bands * slots.now.bands) list.now (length list.now)
         × (slots.now.bands * slots.now.bands ≤ length factors.now)
-        × ((c + 1) * (slots.now.bands * slots.now.bands) ≤ length slots.now.first.now)
-        × ((c + 1) * (slots.now.bands * slots.now.bands) ≤ length slots.now.second.now)
+        × ((c + 1) * (slots.now.bands * slots.now.bands) ≤ length slots.now.integration.first.now)
+        × ((c + 1) * (slots.now.bands * slots.now.bands) ≤ length slots.now.integration.second.now)
         × ((b + 1) * (slots.now.bands * slots.now.bands) ≤ length slots.now.strengths.now) }
     ensures { result ≡ fold (length list.now) f0
-        (λ i t. t ⊕ place_term slots.now.shared factors.now (slots.now.bands * slots.now.bands) c slots.now.first.now slots.now.second.now
+        (λ i t. t ⊕ place_term slots.now.shared factors.now (slots.now.bands * slots.now.bands) c slots.now.integration.first.now slots.now.integration.second.now
         b slots.now.strengths.now (get_or list.now i 0)) }
 {
     let area = slots.bands * slots.bands;
     let weight = slots.shared.weight;
-    let x = part_of(slots.first, c, area);
+    let x = part_of(slots.integration.first, c, area);
     let v = part_of(slots.strengths, b, area);
     if 0.0 < slots.shared.temperature {
-        let y = part_of(slots.second, c, area);
-        return sum_warm(weight, list, factors, x, y, v);
+        let y = part_of(slots.integration.second, c, area);
+        return sum_of(list, |o| {
+            let f = factors[o];
+            (f.sum * x[o] + f.difference * y[o]) * v[o] * weight
+        });
     }
-    sum_cold(weight, list, x, v)
+    sum_of(list, |o| x[o] * v[o] * weight)
 }
 
 // The totals of all positions, two at a time: of each the slots in listing order, k and then j. Lent are the pairs
@@ -175,7 +157,7 @@ fn fill_totals(
         × (slots.now.bands * slots.now.bands ≤ length one.old)
         × (slots.now.bands * slots.now.bands ≤ length two.old) }
     ensures { totals.new ≡ table (length totals.old)
-        (λ b. pair_total slots.now.shared (slots.now.bands * slots.now.bands) (length pairs.now) pairs.now slots.now.flags.now slots.now.first.now slots.now.second.now
+        (λ b. pair_total slots.now.shared (slots.now.bands * slots.now.bands) (length pairs.now) pairs.now slots.now.flags.now slots.now.integration.first.now slots.now.integration.second.now
         slots.now.strengths.now factors.now (block slots.now.weights b) b) }
 {
     let area = slots.bands * slots.bands;
@@ -191,7 +173,8 @@ fn fill_totals(
     }
 }
 
-// From the frequencies of the later legs, of at most N bands each: by lists and factors, each with room for PLACES.
+// From the frequencies of the later legs, of at most N bands each: by lists and factors, each with room for PLACES, which is N * N, since no
+// constant argument may be worked out of another.
 pub fn listed_totals<const N: usize, const PLACES: usize>(
     slots: &Slots<'_>,
     leg1: &[f64],
@@ -210,17 +193,13 @@ pub fn listed_totals<const N: usize, const PLACES: usize>(
     let n = slots.bands;
     let mut seconds = [NO_BAND; N];
     let mut thirds = [NO_BAND; N];
-    fill_bands(
+    let later = later_bands(
         slots.shared,
         leg1,
         leg2,
         &mut seconds[..n],
         &mut thirds[..n],
     );
-    let later = Later {
-        seconds: &seconds[..n],
-        thirds: &thirds[..n],
-    };
     let mut pairs = [0u16; PLACES];
     let mut one = [0u16; PLACES];
     let mut two = [0u16; PLACES];

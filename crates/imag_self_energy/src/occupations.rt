@@ -1,9 +1,10 @@
 // The bands of the later legs, with their occupations.
-ghost use Rattle.std.specs.Prelude.{◌≡◌, [], ◌∷◌, length};
+ghost use Rattle.std.specs.Prelude.{◌≡◌, ◌≤◌, [], ◌∷◌, length};
 ghost use Rattle.funcs.specs.Occupation.{marked};
-ghost use Rattle.imag_self_energy.specs.Bands.{leg_bands};
+ghost use Rattle.imag_self_energy.specs.Bands.{most_bands, leg_bands};
 
 use crate::Shared;
+use crate::slots::Later;
 use phonon::Band;
 
 // The occupation of a band; one that does not exceed the cutoff has the source's mark, -1.0.
@@ -17,7 +18,7 @@ fn occupation(temperature: f64, cutoff: f64, f: f64) -> f64
     -1.0
 }
 
-// Of two bands, side by side.
+// Of two bands, side by side. No one function of any count: that of one band would be its own way out.
 fn occupations(temperature: f64, cutoff: f64, f: f64, g: f64) -> [f64; 2]
     ensures { result ≡ marked temperature cutoff f ∷ marked temperature cutoff g ∷ [] }
 {
@@ -30,13 +31,20 @@ fn occupations(temperature: f64, cutoff: f64, f: f64, g: f64) -> [f64; 2]
     ]
 }
 
-// The bands of both later legs, from their frequencies: of each leg one at a time. By index, since four slices zipped
-// read no plainer.
-pub fn fill_bands(h: Shared, leg1: &[f64], leg2: &[f64], seconds: &mut [Band], thirds: &mut [Band])
-    requires { (length leg2.now ≡ length leg1.now)
+// The bands of both later legs, from their frequencies, in the room that is lent: of each leg one at a time. By index, since four slices
+// zipped read no plainer.
+pub fn later_bands<'a>(
+    h: Shared,
+    leg1: &[f64],
+    leg2: &[f64],
+    seconds: &'a mut [Band],
+    thirds: &'a mut [Band],
+) -> Later<'a>
+    requires { (length leg1.now ≤ most_bands)
+        × (length leg2.now ≡ length leg1.now)
         × (length seconds.old ≡ length leg1.now)
         × (length thirds.old ≡ length leg1.now) }
-    ensures { (seconds.new ≡ leg_bands h leg1.now) × (thirds.new ≡ leg_bands h leg2.now) }
+    ensures { (result.seconds.now ≡ leg_bands h leg1.now) × (result.thirds.now ≡ leg_bands h leg2.now) × (length result.seconds.now ≡ length leg1.now) }
 {
     for j in 0..leg1.len() {
         let f = leg1[j];
@@ -51,4 +59,5 @@ pub fn fill_bands(h: Shared, leg1: &[f64], leg2: &[f64], seconds: &mut [Band], t
             occupation: m,
         };
     }
+    Later { seconds, thirds }
 }

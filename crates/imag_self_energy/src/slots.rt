@@ -3,7 +3,7 @@ ghost use Rattle.std.specs.Prelude.{◌≡◌, ◌≤◌, length};
 ghost use Rattle.imag_self_energy.specs.Bands.{most_bands, Sized};
 
 use crate::Shared;
-use phonon::{Band, Weights};
+use phonon::{Band, IntegrationWeights, Weights};
 
 // The slots of as many first bands as there are positions, and of so many bands of each later leg.
 #[derive(Clone, Copy)]
@@ -13,10 +13,9 @@ pub struct Slots<'a> {
     pub positions: usize,
     pub bands: usize,
     pub flags: &'a [u8],
-    pub first: &'a [f64],
-    pub second: &'a [f64],
+    pub integration: IntegrationWeights<'a>,
     pub strengths: &'a [f64],
-    pub ghost sized: { Sized weights bands positions flags.now first.now second.now strengths.now },
+    pub ghost sized: { Sized weights bands positions flags.now integration.first.now integration.second.now strengths.now },
 }
 
 // The bands of both later legs, of each as many.

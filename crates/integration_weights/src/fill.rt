@@ -23,8 +23,8 @@ fn flag_of(a: f64, b: f64, c: f64) -> u8
 }
 
 // A row, two slots at a time: x and y are the frequencies of its bands of the first two legs, leg has those of the third.
-// First, second and flags stand side by side, here and below: of a struct of the three, parts are not lent yet by the borrow check, and
-// by value its contract says what is left in them by position alone.
+// First, second and flags stand side by side, here and below: of a struct of the three behind a reference, parts of two fields are not lent at
+// once yet by the borrow check, nor two whole fields of a struct that is handed over by value.
 fn row<B: Broadening>(
     of: B,
     x: f64,
@@ -44,6 +44,7 @@ fn row<B: Broadening>(
     let n = leg.len();
     let u = x - y;
     let v = x + y;
+    // By places: the leg and three slices cut into twos and zipped read no plainer.
     for i in 0..n / 2 {
         let k = 2 * i;
         let z = leg[k];

@@ -22,7 +22,8 @@ pub enum Shape {
     Box(f64),
 }
 
-// The integration weights of one triplet: a door. It is handed neither a cutoff nor a bath.
+// The integration weights of one triplet: a door. It is handed neither a cutoff nor a bath. Its eight parameters go to its tests as they are:
+// no other door is handed the same, so that a struct of them would be made for this one call.
 pub fn integration_weights_at_triplet(
     m: TotalsMeasures,
     shape: Shape,

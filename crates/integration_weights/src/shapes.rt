@@ -19,9 +19,7 @@ pub fn width_of(s: Shape) -> f64
     ensures { result ≡ Shapes.width_of s }
 {
     match s {
-        Shape::Gaussian(w) => w,
-        Shape::Lorentzian(w) => w,
-        Shape::Box(w) => w,
+        Shape::Gaussian(w) | Shape::Lorentzian(w) | Shape::Box(w) => w,
     }
 }
 

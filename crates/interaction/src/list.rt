@@ -40,6 +40,7 @@ fn work_list(
         × (work.new ≡ cleared tables.now.measures work.old) }
 {
     let slots = sizes_of(tables.measures, tables.crystal.forces.form).slots;
+    // By places: three slices cut into parts of two lengths and zipped read no plainer.
     for t in 0..list {
         let from = t * slots;
         let to = from + slots;

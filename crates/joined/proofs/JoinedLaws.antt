@@ -1,5 +1,5 @@
 -- What the sum requires of an accepted joined set, and what the door leaves of a set that is refused and of one that is accepted.
-use Prim.Native.Nat.{ℕ, ◌≤◌}
+use Prim.Native.Nat.{◌≤◌}
 use native.Mathlib.Omega.{arith}
 use mathlib.Core.Path.{◌≡◌, refl, ◌∙◌}
 use mathlib.Core.List.{List}

@@ -7,12 +7,13 @@ ghost use Rattle.phonon.specs.Answers.{number_of};
 ghost use Rattle.phonon.specs.Handed.{tables_of};
 ghost use Rattle.phonon.specs.Doors.{JoinedOutcome, joined_outcome};
 
-use imag_self_energy::write_totals;
+use imag_self_energy::{Sum, write_totals};
 use phonon::{Bath, IntegrationWeights, Refusal, Tables, Weights};
 use real_to_normal::triplet::work_triplet;
 use refusals::joined_set::check_joined;
 
-// Document 01's fourth door.
+// Document 01's fourth door. The three lent buffers stand side by side: the worker takes two of them, the sum another two, so that a struct of
+// them would be made and taken apart here alone.
 #[tactic(auto, using(crate::proofs::JoinedLaws::few, crate::proofs::JoinedLaws::refused, crate::proofs::JoinedLaws::accepted))]
 pub fn joined_at_triplet(
     tables: &Tables<'_>,
@@ -49,17 +50,16 @@ pub fn joined_at_triplet(
         work,
     )?;
     work_triplet(tables, triplet, flags, strengths, work);
-    write_totals(
-        Weights::PerSlot,
-        3 * tables.measures.atoms,
-        triplet,
-        tables.phonons.frequencies,
-        tables.settings.cutoff,
+    let sum = Sum {
+        weights: Weights::PerSlot,
+        bands: 3 * tables.measures.atoms,
+        points: triplet,
+        frequencies: tables.phonons.frequencies,
+        cutoff: tables.settings.cutoff,
         flags,
-        integration,
         bath,
-        strengths,
-        totals,
-    );
+        integration,
+    };
+    write_totals(&sum, strengths, totals);
     Ok(())
 }

@@ -20,7 +20,7 @@ const UNKNOWN: u8 = 255;
 fn choice<T: Copy, const N: usize>(number: u8, of: [T; N]) -> Option<T>
     ensures { result ≡ slice_get of number }
 {
-    of.get(number as usize).copied()
+    of.get(usize::from(number)).copied()
 }
 
 fn weights_of(x: u8) -> Option<Weights>
@@ -66,7 +66,8 @@ fn choices_of(anchoring: u8, form: u8, symmetry: u8) -> Option<Choices>
     })
 }
 
-// ---- the doors: C hands over each slice by itself, so that each door and its contract name where it belongs
+// ---- the doors: C hands over each slice by itself, so that each door and its contract name where it belongs. Three doors make the same tables:
+// one function of all 22 parameters would be handed them by position, where here each stands beside its field's name.
 
 // One triplet.
 #[unsafe(no_mangle)]

@@ -10,8 +10,8 @@ use Rattle.imag_self_energy.proofs.imag_self_energy_at_triplet.Goals as goal
 pub returns-in_err-check : goal.returns-in_err-check
 returns-in_err-check c = rw (handed_on _ c.from_residual.ensures.1) (refused _ _ (rw c.in_err-check.was at c.check.ensures))
 
-pub overflow_mul-m : goal.overflow_mul-m
-overflow_mul-m c = omega (arith, few _ (passes c.check.ensures c.in_ok-check.was))
+pub overflow_mul-sum : goal.overflow_mul-sum
+overflow_mul-sum c = omega (arith, few _ (passes c.check.ensures c.in_ok-check.was))
 
 pub write_totals-requires : goal.write_totals-requires
 write_totals-requires c =

@@ -17,8 +17,8 @@ use Rattle.imag_self_energy.proofs.listed.fill_totals.Goals.{After-block-d, Afte
 abbrev Blocks : After-block-d → Type 0
 Blocks c =
     let s = c.args.slots.now in
-    Within (s.bands * s.bands) c.block-c.result c.loop-b.b s.flags.now s.first.now s.second.now s.strengths.now
-    × Within (s.bands * s.bands) c.block-d.result c.min-e.result s.flags.now s.first.now s.second.now s.strengths.now
+    Within (s.bands * s.bands) c.block-c.result c.loop-b.b s.flags.now s.integration.first.now s.integration.second.now s.strengths.now
+    × Within (s.bands * s.bands) c.block-d.result c.min-e.result s.flags.now s.integration.first.now s.integration.second.now s.strengths.now
 
 within : (c : After-block-d) → Blocks c
 within c =
@@ -36,7 +36,7 @@ same_length c = simp length-set c.loop-b.invariant.3
 abbrev total_of : After-sum_listed-in-loop-b → ℕ → Float
 total_of c i =
     let s = c.args.slots.now in
-    pair_total s.shared (s.bands * s.bands) (length c.args.pairs.now) c.args.pairs.now s.flags.now s.first.now s.second.now s.strengths.now c.args.factors.now (block s.weights i) i
+    pair_total s.shared (s.bands * s.bands) (length c.args.pairs.now) c.args.pairs.now s.flags.now s.integration.first.now s.integration.second.now s.strengths.now c.args.factors.now (block s.weights i) i
 
 filled : (c : After-sum_listed-in-loop-b) → Filled (written c) (c.min-e.result + 1) (total_of c)
 filled c =

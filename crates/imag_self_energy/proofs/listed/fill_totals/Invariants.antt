@@ -13,4 +13,4 @@ invariant-loop-b l =
     × (length l.one ≡ length l.initial.one)
     × (length l.two ≡ length l.initial.two)
     × (length l.totals ≡ length l.initial.totals)
-    × Filled l.totals l.b (λ i. pair_total l.slots.shared l.area (length l.pairs) l.pairs l.slots.flags.now l.slots.first.now l.slots.second.now l.slots.strengths.now l.factors (block l.slots.weights i) i)
+    × Filled l.totals l.b (λ i. pair_total l.slots.shared l.area (length l.pairs) l.pairs l.slots.flags.now l.slots.integration.first.now l.slots.integration.second.now l.slots.strengths.now l.factors (block l.slots.weights i) i)

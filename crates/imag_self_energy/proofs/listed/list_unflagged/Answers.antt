@@ -1,8 +1,6 @@
 -- After i turns both lists have what is unflagged of the first i pairs.
-use mathlib.Core.Path.{◌≡◌}
 use native.Mathlib.Omega.{arith}
-use lib.ListN.{length, length-set}
-use Rattle.imag_self_energy.specs.Lists.{unflagged_walk}
+use lib.ListN.{length-set}
 use Rattle.imag_self_energy.proofs.ListLaws.{gain_most, unflagged_turn}
 use Rattle.imag_self_energy.proofs.listed.list_unflagged.Goals as goal
 
@@ -21,10 +19,3 @@ loop-x-preserved c =
       unflagged_turn _ c.args.c c.args.flags.now c.args.pairs.now l.x-index (rw w at c.from-m.ensures) l.invariant.5 (omega arith) p,
       unflagged_turn _ c.args.d c.args.flags.now c.args.pairs.now l.x-index (rw w at c.from-l.ensures) l.invariant.6 (omega arith) p,
     )
-
-pub returns : goal.returns
-unfolding unflagged_walk
-returns c =
-    let l = c.loop-x in
-    let all : l.x-index ≡ length c.args.pairs.now = omega arith in
-    (rw all at l.invariant.5, rw all at l.invariant.6)

@@ -3,17 +3,17 @@ use Prim.Native.Nat.{◌<◌}
 use mathlib.Core.Path.{◌≡◌, refl, ◌∙◌}
 use native.Mathlib.Omega.{arith}
 use lib.ListN.{length, length-set}
-use Rattle.imag_self_energy.specs.Bands.{column_sum}
+use Rattle.imag_self_energy.specs.Bands.{add_slot, slot_step, column_sum}
 use Rattle.imag_self_energy.proofs.Laws.{sized_within, turn, at_end, filled_step, filled_table}
 use Rattle.imag_self_energy.proofs.SlotLaws.{SlotWithin, slot_within, whole}
 use Rattle.imag_self_energy.proofs.plain.fill_plain.Goals as goal
-use Rattle.imag_self_energy.proofs.plain.fill_plain.Goals.{In-loop-j}
+use Rattle.imag_self_energy.proofs.plain.fill_plain.Goals.{In-loop-j, then-flags-o, else-flags-o}
 
 -- slot (b, j, k) lies in each slice
 entry :
     (c : In-loop-j)
     → SlotWithin c.args.slots.now.bands c.block-c.result c.loop-b.b c.loop-j.j c.loop-k.k
-    c.args.slots.now.flags.now c.args.slots.now.first.now c.args.slots.now.second.now c.args.slots.now.strengths.now
+    c.args.slots.now.flags.now c.args.slots.now.integration.first.now c.args.slots.now.integration.second.now c.args.slots.now.strengths.now
 entry c = slot_within (omega arith) (omega (arith, c.args.later.now.alike)) (sized_within _ c.block-c.ensures (omega arith) c.args.slots.now.sized)
 
 pub overflow_mul-o : goal.overflow_mul-o
@@ -48,6 +48,15 @@ offset_bounds-strengths-s c = omega (arith, entry (goal.at.offset_bounds-strengt
 
 pub bounds-strengths-s : goal.bounds-strengths-s
 bounds-strengths-s c = omega (arith, (entry (goal.at.bounds-strengths-s c).In-loop-j).strength.inside)
+
+pub loop-j-preserved : goal.loop-j-preserved
+unfolding slot_step add_slot
+loop-j-preserved c =
+    let h = c.loop-j.invariant.1 in
+    elim c.if-flags-o.branch [
+      | then-flags-o w ↦ (omega arith, turn _ _ _ (w.total-is ∙ rw (w.if-flags-o.true, w.contribution-total.ensures) refl) h)
+      | else-flags-o w ↦ (omega arith, turn _ _ _ (w.total-is ∙ rw w.if-flags-o.false refl) h)
+    ]
 
 pub loop-k-preserved : goal.loop-k-preserved
 unfolding column_sum

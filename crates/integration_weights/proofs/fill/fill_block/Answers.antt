@@ -7,7 +7,7 @@ use lib.ListN.{length}
 use Rattle.phonon.specs.Number.{at}
 use Rattle.planes.proofs.Products.{row_next}
 use Rattle.integration_weights.specs.Rows.{row_slot}
-use Rattle.integration_weights.proofs.SlotLaws.{slots_none, slots_part, slots_at, slots_all, in_block}
+use Rattle.integration_weights.proofs.SlotLaws.{slots_none, slots_part, slots_at, in_block}
 use Rattle.integration_weights.proofs.fill.fill_block.Goals as goal
 use Rattle.integration_weights.proofs.fill.fill_block.Goals.{In-loop-j}
 
@@ -28,6 +28,3 @@ loop-j-preserved c =
     slots_at _ _
     (slots_part _ _ c.loop-j.invariant n (row_slot a.s a.x (at a.leg1.now j) a.leg2.now) (fits (goal.at.loop-j-preserved c).In-loop-j) (in_block a.s a.x a.leg1.now a.leg2.now j) c.fill_row.ensures)
     (row_next j n)
-
-pub returns : goal.returns
-returns c = slots_all _ _ c.loop-j.invariant (mul-le-mul_right _ (omega (arith, c.loop-j-test.false)))

@@ -7,7 +7,7 @@ use lib.ListN.{length}
 use Rattle.phonon.specs.Number.{at}
 use Rattle.planes.proofs.Products.{row_next}
 use Rattle.integration_weights.specs.Rows.{block_slot}
-use Rattle.integration_weights.proofs.SlotLaws.{slots_none, slots_part, slots_at, slots_all, in_all}
+use Rattle.integration_weights.proofs.SlotLaws.{slots_none, slots_part, slots_at, in_all}
 use Rattle.integration_weights.proofs.fill.fill_weights.Goals as goal
 use Rattle.integration_weights.proofs.fill.fill_weights.Goals.{In-loop-b}
 
@@ -29,6 +29,3 @@ loop-b-preserved c =
     (slots_part _ _ c.loop-b.invariant n (block_slot a.s (at a.legs.leg0.now c.index_at.result) a.legs.leg1.now a.legs.leg2.now) (fits (goal.at.loop-b-preserved c).In-loop-b)
     (in_all a.s a.bands.now a.legs.leg0.now a.legs.leg1.now a.legs.leg2.now b c.index_at.ensures) c.fill_block.ensures)
     (row_next b n)
-
-pub returns : goal.returns
-returns c = slots_all _ _ c.loop-b.invariant (mul-le-mul_right _ (omega (arith, c.loop-b-test.false)))

@@ -35,9 +35,6 @@ loop-i-preserved g c =
     refl refl (rw (c.flag_of.ensures, c.flag_of-in-loop-i.ensures) refl))
     (omega arith)
 
-pub returns-else-n-eq1 : goal.returns-else-n-eq1
-returns-else-n-eq1 g c = slots_all _ _ c.loop-i.invariant (omega arith)
-
 pub flag_of-requires-then-n-eq1 : goal.flag_of-requires-then-n-eq1
 flag_of-requires-then-n-eq1 g c =
     let a = c.args in

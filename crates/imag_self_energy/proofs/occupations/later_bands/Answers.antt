@@ -3,7 +3,7 @@ use mathlib.Core.Path.{◌≡◌, refl}
 use native.Mathlib.Omega.{arith}
 use lib.ListN.{length}
 use Rattle.imag_self_energy.proofs.Laws.{both_step, both_whole}
-use Rattle.imag_self_energy.proofs.occupations.fill_bands.Goals as goal
+use Rattle.imag_self_energy.proofs.occupations.later_bands.Goals as goal
 
 pub loop-j-preserved : goal.loop-j-preserved
 loop-j-preserved c =
@@ -14,4 +14,5 @@ pub returns : goal.returns
 returns c =
     let l = c.loop-j in
     let all : l.j ≡ length c.args.leg1.now = omega arith in
-    both_whole c.requires.0 (rw all at l.invariant.1)
+    let e = both_whole c.requires.1 (rw all at l.invariant.1) in
+    (e.0, e.1, l.invariant.1.room2)
