@@ -1,26 +1,30 @@
 -- Tables as slices of the words, and prefixes of arrays.
 use Prim.Native.Nat.{ℕ, zero, suc, ◌-◌, ◌≤◌}
 use mathlib.Core.Path.{◌≡◌, refl, ◌∙◌, ap}
-use mathlib.Core.List.{List, ◌∷◌}
+use mathlib.Core.List.{List, ◌∷◌, ◌++◌}
 use native.Mathlib.Omega.{arith}
 use lib.Ieee.{Float}
 use lib.ListN.{length, take, length-replicate}
-use borrow.Rule.Slice.PartMut.{mid_len}
-use Rattle.phonon.specs.Number.{f0}
+use lib.Seq.{take_at}
+use Rattle.phonon.specs.Number.{f0, table}
+use Rattle.phonon.proofs.Laws.{table_length}
 use Rattle.phonon.specs.Sets.{slots}
 use Rattle.carton.specs.declared.heading.Heading.{Heading}
 use Rattle.carton.specs.Fitted.{Fitted}
 use Rattle.carton.specs.Most.{most_words}
-use Rattle.carton.specs.Heading.{slice}
 use Rattle.answer.specs.Text.{zeros}
 
 pub fitted_same : (h : Heading) (n m : ℕ) → m ≡ n → Fitted h n → Fitted h m
 fitted_same h n m e f = rw e f
 
-pub flags_long : (h : Heading) (n : ℕ) (l : List ℕ) → Fitted h n → length l ≡ n → slots h.measures ≤ length (slice h.places.flags h.places.constants l)
-flags_long h n l f e =
-    let t = f.tables.flags in
-    omega (arith, mid_len h.places.flags h.places.constants l (omega (arith, t.inside)), f.flags, t.order)
+-- ---- a prefix that was lent and has come back as a table
+
+module _ {A : Type 0} (n : ℕ) (f : ℕ → A) (x rest : List A) (e : x ≡ table n f) where
+  pub lent_back : take n (x ++ rest) ≡ table n f
+  lent_back = take_at x rest n (ap length e ∙ table_length n f) ∙ e
+
+  pub lent_length : length (take n (x ++ rest)) ≡ n
+  lent_length = ap length lent_back ∙ table_length n f
 
 -- ---- prefixes
 

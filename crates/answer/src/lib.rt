@@ -49,37 +49,6 @@ fn set_lines(
     Ok(text)
 }
 
-// The lines of a carton whose words are read, with columns and buffers that are lent.
-fn words_lines(
-    h: &Heading,
-    words: &[u64],
-    floats: &mut [f64],
-    ints: &mut [i64],
-    bytes: &mut [u8],
-    strengths: &mut [f64],
-    totals: &mut [f64],
-    work: &mut [f64],
-) -> Result<Text, Refusal>
-    requires { Fitted h.now (length words.now)
-        × (length floats.old ≡ length words.now)
-        × (length ints.old ≡ length words.now)
-        × (length bytes.old ≡ length words.now)
-        × (strengths.old ≡ zeros (slots h.now.measures))
-        × (totals.old ≡ zeros h.now.measures.first)
-        × (work.old ≡ zeros most_work) }
-    ensures { printed result ≡ set_text (start_of (columns_of words.now) h.now) }
-{
-    read_column(words, floats);
-    read_column(words, ints);
-    read_column(words, bytes);
-    let columns = Columns {
-        floats,
-        ints,
-        bytes,
-    };
-    set_lines(h, &columns, strengths, totals, work)
-}
-
 // An array of one number.
 pub fn filled<T: Copy, const N: usize>(x: T) -> [T; N]
     ensures entries { result ≡ replicate N x }
@@ -94,20 +63,25 @@ fn heading_lines(h: &Heading, words: &[u64]) -> Result<Text, Refusal>
     ensures { printed result ≡ set_text (start_of (columns_of words.now) h.now) }
 {
     let n = words.len();
-    let first = h.measures.first;
-    let slots = h.places.end - h.places.second;
     let mut floats = filled::<f64, 6048>(0.0);
     let mut ints = filled::<i64, 6048>(0);
     let mut bytes = filled::<u8, 6048>(0);
+    read_column(words, &mut floats[..n]);
+    read_column(words, &mut ints[..n]);
+    read_column(words, &mut bytes[..n]);
+    let columns = Columns {
+        floats: &floats[..n],
+        ints: &ints[..n],
+        bytes: &bytes[..n],
+    };
+    let first = h.measures.first;
+    let slots = h.places.end - h.places.second;
     let mut strengths = filled::<f64, 6048>(0.0);
     let mut totals = filled::<f64, 6048>(0.0);
     let mut work = filled::<f64, 6144>(0.0);
-    words_lines(
+    set_lines(
         h,
-        words,
-        &mut floats[..n],
-        &mut ints[..n],
-        &mut bytes[..n],
+        &columns,
         &mut strengths[..slots],
         &mut totals[..first],
         &mut work,
