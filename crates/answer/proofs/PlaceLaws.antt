@@ -1,11 +1,13 @@
 -- Tables as slices of the words, and prefixes of arrays.
-use Prim.Native.Nat.{ℕ, zero, suc, ◌-◌, ◌≤◌}
-use mathlib.Core.Path.{◌≡◌, refl, ◌∙◌, ap}
-use mathlib.Core.List.{List, ◌∷◌, ◌++◌}
+use Prim.Native.Nat.{ℕ, ◌-◌, ◌≤◌, ◌<◌}
+use mathlib.Core.Path.{◌≡◌, sym, ◌∙◌, ap}
+use mathlib.Core.List.{List, ◌++◌}
 use native.Mathlib.Omega.{arith}
 use lib.Ieee.{Float}
 use lib.ListN.{length, take, length-replicate}
 use lib.Seq.{take_at}
+use Rattle.std.proofs.lemmas.List.{ext_get_or, get_or-replicate, take-replicate}
+use Rattle.std.specs.Array.{AllOfLen}
 use Rattle.phonon.specs.Number.{f0, table}
 use Rattle.phonon.proofs.Laws.{table_length}
 use Rattle.phonon.specs.Sets.{slots}
@@ -26,18 +28,20 @@ module _ {A : Type 0} (n : ℕ) (f : ℕ → A) (x rest : List A) (e : x ≡ tab
   pub lent_length : length (take n (x ++ rest)) ≡ n
   lent_length = ap length lent_back ∙ table_length n f
 
--- ---- prefixes
+-- ---- arrays of zeros, and prefixes of them
+
+pub repeated : (n : ℕ) (l : List Float) → AllOfLen (λ y. y ≡ f0) l n → l ≡ zeros n
+repeated n l a =
+    ext_get_or f0 l (zeros n) (a.long ∙ sym (length-replicate n f0))
+    (λ k h.
+    let b : k < n = omega (arith, a.long) in
+    a.at k f0 b ∙ sym (get_or-replicate n k f0 f0 b))
 
 pub zeros_length : (n : ℕ) (l : List Float) → l ≡ zeros n → length l ≡ n
 zeros_length n l e = ap (λ (x : List Float). length x) e ∙ length-replicate n _
 
-take_zeros : (n m : ℕ) → n ≤ m → take n (zeros m) ≡ zeros n
-take_zeros zero m h = refl
-take_zeros (suc n) zero h = absurd (omega arith)
-take_zeros (suc n) (suc m) h = ap (λ (l : List Float). f0 ∷ l) (take_zeros n m (omega arith))
-
 pub zeros_before : (n m k : ℕ) (l : List Float) → l ≡ zeros m → n ≡ k → k ≤ m → take n l ≡ zeros k
-zeros_before n m k l e q h = ap (λ (x : List Float). take n x) e ∙ rw q (take_zeros k m h)
+zeros_before n m k l e q h = ap (λ (x : List Float). take n x) e ∙ rw q (take-replicate k m f0 h)
 
 pub slot_count : (h : Heading) (n : ℕ) → Fitted h n → h.places.end - h.places.second ≡ slots h.measures
 slot_count h n f = let q = f.second in omega arith

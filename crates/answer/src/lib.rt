@@ -1,7 +1,7 @@
 // What `key` prints for any file: the carton is read, worked by the joined door, and put down as text.
 #![tactic(auto)]
 
-ghost use Rattle.std.specs.Prelude.{◌≡◌, true, ◌*◌, ◌/◌, ◌≤◌, length, replicate};
+ghost use Rattle.std.specs.Prelude.{◌≡◌, true, ◌*◌, ◌/◌, ◌≤◌, length};
 ghost use Rattle.phonon.specs.Sets.{slots};
 ghost use Rattle.carton.specs.Blocks.{size_ok, blocks_ok};
 ghost use Rattle.carton.specs.Fitted.{Fitted};
@@ -15,6 +15,7 @@ use arrayvec::ArrayVec;
 use carton::{Columns, Heading, heading_of, read_column, read_words};
 use carton_door::run_door;
 use phonon::Refusal;
+use std::array;
 use text::{Slots, put_accepted, put_refused};
 
 // Room for a file of 96 blocks and one byte more, by which a longer file is known.
@@ -49,23 +50,15 @@ fn set_lines(
     Ok(text)
 }
 
-// An array of one number.
-pub fn filled<T: Copy, const N: usize>(x: T) -> [T; N]
-    ensures entries { result ≡ replicate N x }
-    ensures len { length result ≡ N }
-{
-    [x; N]
-}
-
 // The lines of a carton whose words are read; columns and buffers are arrays of its own.
 fn heading_lines(h: &Heading, words: &[u64]) -> Result<Text, Refusal>
     requires { Fitted h.now (length words.now) }
     ensures { printed result ≡ set_text (start_of (columns_of words.now) h.now) }
 {
     let n = words.len();
-    let mut floats = filled::<f64, 6048>(0.0);
-    let mut ints = filled::<i64, 6048>(0);
-    let mut bytes = filled::<u8, 6048>(0);
+    let mut floats = array::repeat::<f64, 6048>(0.0);
+    let mut ints = array::repeat::<i64, 6048>(0);
+    let mut bytes = array::repeat::<u8, 6048>(0);
     read_column(words, &mut floats[..n]);
     read_column(words, &mut ints[..n]);
     read_column(words, &mut bytes[..n]);
@@ -76,9 +69,9 @@ fn heading_lines(h: &Heading, words: &[u64]) -> Result<Text, Refusal>
     };
     let first = h.measures.first;
     let slots = h.places.end - h.places.second;
-    let mut strengths = filled::<f64, 6048>(0.0);
-    let mut totals = filled::<f64, 6048>(0.0);
-    let mut work = filled::<f64, 6144>(0.0);
+    let mut strengths = array::repeat::<f64, 6048>(0.0);
+    let mut totals = array::repeat::<f64, 6048>(0.0);
+    let mut work = array::repeat::<f64, 6144>(0.0);
     set_lines(
         h,
         &columns,
@@ -109,7 +102,7 @@ fn lines_of(input: &[u8]) -> Result<Text, Refusal>
     if !carton::blocks_ok(input) {
         return Err(Refusal::Block);
     }
-    let mut words = filled::<u64, 6048>(0);
+    let mut words = array::repeat::<u64, 6048>(0);
     let n = 63 * (input.len() / 512);
     blocks_lines(input, &mut words[..n])
 }

@@ -9,14 +9,14 @@ use Rattle.carton.proofs.heading.heading_of.Goals as goal
 
 pub returns-in_err-require : goal.returns-in_err-require
 returns-in_err-require c =
-    let f = failed _ Cause.Heading c.require.ensures c.in_err-require.was in
     let e : ◌≡◌ {A = Result Heading Refusal} c.from_residual.result (Err c.in_err-require.field-0.0) = search rules in
+    let f = failed _ Cause.Heading c.require.ensures c.in_err-require.was in
     (rw f.1 at e) ∙ tests_wrong c.args.words.now _ c.is_small.ensures c.requires.1 f.0
 
 pub returns-in_err-require-2 : goal.returns-in_err-require-2
 returns-in_err-require-2 c =
-    let f = failed _ Cause.Heading c.require-2.ensures c.in_err-require-2.was in
     let e : ◌≡◌ {A = Result Heading Refusal} c.from_residual-in_err-require-2.result (Err c.in_err-require-2.field-0.0) = search rules in
+    let f = failed _ Cause.Heading c.require-2.ensures c.in_err-require-2.was in
     (rw f.1 at e)
     ∙ words_wrong c.args.words.now _ c.is_small.ensures (passed _ Cause.Heading c.require.ensures c.in_ok-require.was) _ _ _ (c.choice-form.ensures ∙ compact_bit _)
     c.places_of-p.ensures
