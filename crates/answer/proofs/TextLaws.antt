@@ -8,11 +8,10 @@ use lib.Ieee.{Float}
 use lib.IntN.{ℤ}
 use borrow.Author.Tests.{lt-leb}
 use lib.Dec.{leb, eqb}
-use lib.ListN.{length, take, length-take}
+use lib.ListN.{length, take}
 use lib.Seq.{length-take-le}
 use Rattle.std.specs.Prelude.{Result, Ok, Err}
 use Rattle.phonon.specs.declared.Refusal.{Refusal}
-use Rattle.phonon.specs.declared.Refusal.TheVariants as Cause
 use Rattle.phonon.specs.Answers.{number}
 use Rattle.phonon.proofs.Answers.{number_positive}
 use Rattle.phonon.specs.Sets.{JoinedSet, bands_of, slots}

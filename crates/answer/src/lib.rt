@@ -1,7 +1,7 @@
 // What `key` prints for any file: the carton is read, worked by the joined door, and put down as text.
 #![tactic(auto)]
 
-ghost use Rattle.std.specs.Prelude.{◌≡◌, true, ◌*◌, ◌/◌, ◌≤◌, length, replicate};
+ghost use Rattle.std.specs.Prelude.{◌≡◌, true, ◌*◌, ◌/◌, ◌≤◌, length};
 ghost use Rattle.phonon.specs.Sets.{slots};
 ghost use Rattle.carton.specs.Blocks.{size_ok, blocks_ok};
 ghost use Rattle.carton.specs.Fitted.{Fitted};
@@ -15,6 +15,7 @@ use arrayvec::ArrayVec;
 use carton::{Columns, Heading, heading_of, read_column, read_words};
 use carton_door::run_door;
 use phonon::Refusal;
+use std::array;
 use text::{Slots, put_accepted, put_refused};
 
 // Room for a file of 96 blocks and one byte more, by which a longer file is known.
@@ -49,65 +50,31 @@ fn set_lines(
     Ok(text)
 }
 
-// The lines of a carton whose words are read, with columns and buffers that are lent.
-fn words_lines(
-    h: &Heading,
-    words: &[u64],
-    floats: &mut [f64],
-    ints: &mut [i64],
-    bytes: &mut [u8],
-    strengths: &mut [f64],
-    totals: &mut [f64],
-    work: &mut [f64],
-) -> Result<Text, Refusal>
-    requires { Fitted h.now (length words.now)
-        × (length floats.old ≡ length words.now)
-        × (length ints.old ≡ length words.now)
-        × (length bytes.old ≡ length words.now)
-        × (strengths.old ≡ zeros (slots h.now.measures))
-        × (totals.old ≡ zeros h.now.measures.first)
-        × (work.old ≡ zeros most_work) }
-    ensures { printed result ≡ set_text (start_of (columns_of words.now) h.now) }
-{
-    read_column(words, floats);
-    read_column(words, ints);
-    read_column(words, bytes);
-    let columns = Columns {
-        floats,
-        ints,
-        bytes,
-    };
-    set_lines(h, &columns, strengths, totals, work)
-}
-
-// An array of one number.
-pub fn filled<T: Copy, const N: usize>(x: T) -> [T; N]
-    ensures entries { result ≡ replicate N x }
-    ensures len { length result ≡ N }
-{
-    [x; N]
-}
-
 // The lines of a carton whose words are read; columns and buffers are arrays of its own.
 fn heading_lines(h: &Heading, words: &[u64]) -> Result<Text, Refusal>
     requires { Fitted h.now (length words.now) }
     ensures { printed result ≡ set_text (start_of (columns_of words.now) h.now) }
 {
     let n = words.len();
+    let mut floats = array::repeat::<f64, 6048>(0.0);
+    let mut ints = array::repeat::<i64, 6048>(0);
+    let mut bytes = array::repeat::<u8, 6048>(0);
+    read_column(words, &mut floats[..n]);
+    read_column(words, &mut ints[..n]);
+    read_column(words, &mut bytes[..n]);
+    let columns = Columns {
+        floats: &floats[..n],
+        ints: &ints[..n],
+        bytes: &bytes[..n],
+    };
     let first = h.measures.first;
     let slots = h.places.end - h.places.second;
-    let mut floats = filled::<f64, 6048>(0.0);
-    let mut ints = filled::<i64, 6048>(0);
-    let mut bytes = filled::<u8, 6048>(0);
-    let mut strengths = filled::<f64, 6048>(0.0);
-    let mut totals = filled::<f64, 6048>(0.0);
-    let mut work = filled::<f64, 6144>(0.0);
-    words_lines(
+    let mut strengths = array::repeat::<f64, 6048>(0.0);
+    let mut totals = array::repeat::<f64, 6048>(0.0);
+    let mut work = array::repeat::<f64, 6144>(0.0);
+    set_lines(
         h,
-        words,
-        &mut floats[..n],
-        &mut ints[..n],
-        &mut bytes[..n],
+        &columns,
         &mut strengths[..slots],
         &mut totals[..first],
         &mut work,
@@ -135,7 +102,7 @@ fn lines_of(input: &[u8]) -> Result<Text, Refusal>
     if !carton::blocks_ok(input) {
         return Err(Refusal::Block);
     }
-    let mut words = filled::<u64, 6048>(0);
+    let mut words = array::repeat::<u64, 6048>(0);
     let n = 63 * (input.len() / 512);
     blocks_lines(input, &mut words[..n])
 }

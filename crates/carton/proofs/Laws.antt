@@ -1,5 +1,5 @@
 -- Two's complement, and tests of a whole list.
-use Rattle.std.proofs.Common.{ℕ, zero, suc, ◌+◌, ◌≤◌, ◌<◌, ◌≡◌, ◌∙◌, refl, ap, sym, arith, add-one, zero-add, Bool, ◌&&◌, List, length, get_or, take, negsuc, ◌-◌}
+use Rattle.std.proofs.Common.{ℕ, zero, suc, ◌≤◌, ◌<◌, ◌≡◌, ◌∙◌, refl, ap, arith, add-one, zero-add, Bool, ◌&&◌, List, length, get_or, take, negsuc, ◌-◌}
 use native.Mathlib.Decide.{dec_lt}
 use mir.Val.{to_z, of_z, SFits}
 use mir.ValLaws.{to_z-of_z}

@@ -1,10 +1,11 @@
 -- Measures of at most 6,048: no sum of their sizes wraps. A larger measure does not match the words of any file.
-use Prim.Native.Nat.{ℕ, ◌≤◌, ◌<◌}
+use Prim.Native.Nat.{ℕ, ◌*◌, ◌≤◌, ◌<◌}
 use mathlib.Core.Bool.{true, false, ◌&&◌}
 use mathlib.Core.List.{List}
 use mathlib.Core.Path.{◌≡◌, refl, sym, ◌∙◌}
 use lib.Dec.{leb, eqb}
 use lib.ListN.{length}
+use Rattle.std.specs.Int.{div_ceil}
 use borrow.Author.Tests.{leb-true, le-leb, lt-ltb, ne_eqb}
 use native.Mathlib.Decide.{dec_le}
 use native.Mathlib.Omega.{arith}
@@ -84,6 +85,14 @@ sized m form z e q =
 
 -- ---- places
 
+-- the last table ends where no count wraps
+pub end_most : (m : Measures) (form : Form) (p : Places) → small_ok m ≡ true → p ≡ places_of m form → p.end ≤ 200000000000000000
+unfolding places_with
+end_most m form p e q =
+    let s = sized m form (sizes_of m form) e refl in
+    let k = s.measures in
+    rw q (omega arith)
+
 pub placed : (m : Measures) (form : Form) (p : Places) (n : ℕ) → p ≡ places_of m form → p.end ≤ n → Placed p n
 unfolding places_with
 placed m form p n e h =
@@ -113,8 +122,12 @@ unfolding places_with sizes_of
 measures_before m form h =
     record { atoms = omega arith; supercell = omega arith; first = omega arith; grid = omega arith; vectors = omega arith }
 
+-- the words of whole blocks, as the code counts them
+pub filled_is : (n d : ℕ) → d ≡ div_ceil n 63 → filled n ≡ 63 * d
+filled_is n d e = omega arith
+
 -- more words than there are
-pub too_few : (n end : ℕ) → n < end → eqb n (filled end) ≡ false
+too_few : (n end : ℕ) → n < end → eqb n (filled end) ≡ false
 too_few n end h = ne_eqb _ _ (λ (e : n ≡ filled end). omega arith)
 
 pub not_small : (ws : List ℕ) (m : Measures) (form : Form) → length ws ≤ most_words → small_ok m ≡ false → words_match ws m (places_of m form) ≡ false

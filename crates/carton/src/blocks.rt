@@ -8,24 +8,15 @@ fn four_at(s: &[u8], i: usize) -> u32
     requires { i + 4 ≤ length s.now }
     ensures { result ≡ four_at s.now i }
 {
-    u32::from_le_bytes([s[i], s[i + 1], s[i + 2], s[i + 3]])
+    u32::from_le_bytes(<[u8; 4]>::try_from(&s[i..i + 4]).unwrap())
 }
 
 // The little-endian number of eight bytes from byte i on.
-pub fn eight_at(s: &[u8], i: usize) -> u64
+pub(crate) fn eight_at(s: &[u8], i: usize) -> u64
     requires { i + 8 ≤ length s.now }
     ensures { result ≡ eight_at s.now i }
 {
-    u64::from_le_bytes([
-        s[i],
-        s[i + 1],
-        s[i + 2],
-        s[i + 3],
-        s[i + 4],
-        s[i + 5],
-        s[i + 6],
-        s[i + 7],
-    ])
+    u64::from_le_bytes(<[u8; 8]>::try_from(&s[i..i + 8]).unwrap())
 }
 
 // Number 10. 49,152 bytes are 96 blocks.
@@ -34,7 +25,7 @@ pub fn size_ok(s: &[u8]) -> bool
     ensures { result ≡ size_ok s.now }
 {
     let n = s.len();
-    (1 <= n) & (n % 512 == 0) & (n <= 49152)
+    (1..=49152).contains(&n) & n.is_multiple_of(512)
 }
 
 // The check of the block from byte i on.
@@ -42,10 +33,7 @@ fn check_of(s: &[u8], i: usize) -> u64
     requires { i + 512 ≤ length s.now }
     ensures { result ≡ check_of s.now i }
 {
-    let mut sum: u64 = 0;
-    for k in 0..127 {
-        sum += u64::from(four_at(s, i + 4 * k));
-    }
+    let sum: u64 = (0..127).map(|k| u64::from(four_at(s, i + 4 * k))).sum();
     sum % 4294967296
 }
 
@@ -58,6 +46,7 @@ fn block_ok(s: &[u8], b: usize) -> bool
     let i = 512 * b;
     let number = u64::from(four_at(s, i + 504));
     let check = u64::from(four_at(s, i + 508));
+    // No From leads from usize to u64; the check proves that `as` loses nothing.
     (number == b as u64) & (check == check_of(s, i))
 }
 

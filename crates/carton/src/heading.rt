@@ -6,6 +6,7 @@ ghost use Rattle.carton.specs.Small.{small_ok};
 
 use crate::words::all_below;
 use checks::sizes::sizes_of;
+use checks::verdict::require;
 use phonon::{Anchoring, Form, Measures, Refusal, Symmetry};
 use planes::work_length;
 
@@ -57,11 +58,9 @@ fn choice<T: Copy>(bits: u64, worth: u64, set: T, off: T) -> T
 fn is_small(m: Measures) -> bool
     ensures { result ≡ small_ok m }
 {
-    (m.atoms <= 6048)
-        & (m.supercell <= 6048)
-        & (m.first <= 6048)
-        & (m.grid <= 6048)
-        & (m.vectors <= 6048)
+    [m.atoms, m.supercell, m.first, m.grid, m.vectors]
+        .iter()
+        .all(|n| *n <= 6048)
 }
 
 // The tables stand one behind the other, each as long as the measures say.
@@ -110,19 +109,12 @@ fn words_match(words: &[u64], m: Measures, form: Form, p: Places) -> bool
     requires { (length words.now ≤ most_words) × (small_ok m ≡ true) × (p ≡ places_of m form) }
     ensures { result ≡ words_match words.now m p }
 {
-    let end = p.end;
-    if words.len() < end {
+    if words.len() != 63 * p.end.div_ceil(63) {
         return false;
     }
-    if words.len() != 63 * ((end + 62) / 63) {
-        return false;
-    }
-    if work_length(m.atoms, m.supercell) > 6144 {
-        return false;
-    }
-    let shortest = p.shortest;
-    let constants = p.constants;
-    all_below(256, &words[shortest..constants]) & all_below(1, &words[end..])
+    (work_length(m.atoms, m.supercell) <= 6144)
+        & all_below(256, &words[p.shortest..p.constants])
+        & all_below(1, &words[p.end..])
 }
 
 // The heading of a file of these words, each test of number 12 made before the next step rests on it.
@@ -131,6 +123,7 @@ pub fn heading_of(words: &[u64]) -> Result<Heading, Refusal>
     ensures { result ≡ read_of words.now }
 {
     let edition = words[0];
+    // No From leads from u64 to usize; the check proves that `as` loses nothing.
     let m = Measures {
         atoms: words[1] as usize,
         supercell: words[2] as usize,
@@ -139,15 +132,10 @@ pub fn heading_of(words: &[u64]) -> Result<Heading, Refusal>
         vectors: words[5] as usize,
     };
     let bits = words[6];
-    let good = (edition == 1) & (bits < 8) & is_small(m);
-    if !good {
-        return Err(Refusal::Heading);
-    }
+    require((edition == 1) & (bits < 8) & is_small(m), Refusal::Heading)?;
     let form = choice(bits, 1, Form::Compact, Form::Full);
     let p = places_of(m, form);
-    if !words_match(words, m, form, p) {
-        return Err(Refusal::Heading);
-    }
+    require(words_match(words, m, form, p), Refusal::Heading)?;
     Ok(Heading {
         measures: m,
         form,

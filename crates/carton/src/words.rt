@@ -66,13 +66,14 @@ pub fn read_column<T: FromWord>(words: &[u64], column: &mut [T])
     requires { length column.old ≡ length words.now }
     ensures { column.new ≡ table (length words.now) (λ k. T.of (get_or words.now k 0)) }
 {
+    // Not a zip of both: its loop has no name for what the column holds so far, and the promise is of that.
     for (k, entry) in column.iter_mut().enumerate() {
         *entry = T::from_word(words[k]);
     }
 }
 
 // Whether each word is below the limit.
-pub fn all_below(limit: u64, words: &[u64]) -> bool
+pub(crate) fn all_below(limit: u64, words: &[u64]) -> bool
     ensures { result ≡ all_below limit words.now }
 {
     words.iter().all(|w| *w < limit)

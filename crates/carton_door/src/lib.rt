@@ -12,6 +12,7 @@ use joined::joined_at_triplet;
 use phonon::{Bath, Crystal, Forces, Grid, IntegrationWeights, Phonons, Refusal, Settings, Tables};
 use planes::array_at;
 
+// Strengths, totals and the work buffer one by one, as the joined door takes them.
 pub fn run_door(
     h: &Heading,
     columns: &Columns<'_>,

@@ -2,6 +2,7 @@
 // little-endian, and its bytes, of which only the first 49,153 matter and are sent.
 #![tactic(auto)]
 
+use std::array;
 use std::io;
 use std::io::{ErrorKind, Read, Write};
 
@@ -9,7 +10,7 @@ use std::io::{ErrorKind, Read, Write};
 fn next_carton<R: Read, W: Write>(from: &mut R, to: &mut W) -> io::Result<()> {
     let mut size = [0; 4];
     from.read_exact(&mut size)?;
-    let mut input = answer::filled::<u8, { answer::MOST_INPUT }>(0);
+    let mut input = array::repeat::<u8, { answer::MOST_INPUT }>(0);
     let Some(carton) = input.get_mut(..u32::from_le_bytes(size) as usize) else {
         return Err(ErrorKind::InvalidData.into());
     };

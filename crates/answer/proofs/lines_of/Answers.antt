@@ -12,13 +12,13 @@ pub returns-then-not-blocks_ok : goal.returns-then-not-blocks_ok
 returns-then-not-blocks_ok c = answer_11 _ (sym c.if-not-size_ok.ensures) (sym c.if-not-blocks_ok.ensures)
 
 pub slice_bounds-words-end : goal.slice_bounds-words-end
-slice_bounds-words-end c = omega (arith, word_count _ (sym c.if-not-size_ok.ensures), c.filled-words.ensures.len)
+slice_bounds-words-end c = omega (arith, word_count _ (sym c.if-not-size_ok.ensures), c.repeat-words.ensures.items.long)
 
 pub slice_bounds-blocks_lines-end : goal.slice_bounds-blocks_lines-end
-slice_bounds-blocks_lines-end c = sym (length-take-le _ _ (omega (arith, word_count _ (sym c.if-not-size_ok.ensures), c.filled-words.ensures.len)))
+slice_bounds-blocks_lines-end c = sym (length-take-le _ _ (omega (arith, word_count _ (sym c.if-not-size_ok.ensures), c.repeat-words.ensures.items.long)))
 
 pub blocks_lines-requires : goal.blocks_lines-requires
 blocks_lines-requires c =
     let size = sym c.if-not-size_ok.ensures in
     let blocks = sym c.if-not-blocks_ok.ensures in
-    (size, blocks, length-take-le _ _ (omega (arith, word_count _ size, c.filled-words.ensures.len)))
+    (size, blocks, length-take-le _ _ (omega (arith, word_count _ size, c.repeat-words.ensures.items.long)))

@@ -1,5 +1,5 @@
 -- The door tells what is left; an accepted set has at most three atoms, so that its lines have room.
-use Rattle.std.proofs.Common.{ℕ, ◌≡◌, ◌++◌, ◌∙◌, List, length, ap, arith, rules, Result, Err}
+use Rattle.std.proofs.Common.{ℕ, ◌≡◌, ◌∙◌, List, length, ap, arith, rules, Result, Err}
 use Rattle.arrayvec.specs.ArrayVec.{ArrayVec}
 use Rattle.phonon.specs.Answers.{number_of}
 use Rattle.phonon.specs.declared.Refusal.{Refusal}

@@ -1,5 +1,5 @@
 -- The test of each block in turn.
-use Rattle.std.proofs.Common.{ℕ, ◌/◌, ◌∙◌, arith, rules, length, refl}
+use Rattle.std.proofs.Common.{◌/◌, ◌∙◌, arith, rules, length, refl}
 use Rattle.std.proofs.lemmas.Iterator.{YieldsList-from_range}
 use Rattle.std.proofs.lemmas.Iterator.Search.{all_from_yields_List}
 use Rattle.carton.specs.Blocks.{block_ok, blocks_ok}

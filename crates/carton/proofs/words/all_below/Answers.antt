@@ -1,5 +1,5 @@
 -- The test of each word in turn.
-use Rattle.std.proofs.Common.{ℕ, ◌∙◌, arith, rules}
+use Rattle.std.proofs.Common.{ℕ, ◌∙◌, rules}
 use lib.Dec.{ltb}
 use Rattle.std.proofs.lemmas.Iterator.{YieldsList-from_slice}
 use Rattle.std.proofs.lemmas.Iterator.Search.{all_from_yields_List}
