@@ -7,7 +7,7 @@ use lib.ListN.{get_or}
 use lib.Ieee.{Float}
 use Rattle.phonon.specs.declared.Legs.{Legs}
 use Rattle.phonon.specs.Sets.{Tables}
-use Rattle.phonon.specs.Interaction.{leg}
+use Rattle.phonon.specs.Interaction.{leg, picked}
 use Rattle.phonon.specs.RealToReciprocal.{phase_factors, pre_factor_entry, pre_factors, reciprocal_from, reciprocal}
 use Rattle.planes.specs.Split.{WroteSplit}
 use Rattle.planes.specs.Region.{SameOutside}
@@ -16,7 +16,7 @@ use Rattle.planes.proofs.RegionLaws.{outside_then, outside_wider, outside_split}
 use Rattle.planes.proofs.WorkLaws.{numbers_below, numbers_wrote}
 use Rattle.planes.proofs.Products.{row_le}
 use Rattle.real_to_reciprocal.specs.Stored.{region_end}
-use Rattle.real_to_normal.specs.Work.{columns_at, factors_at, pre_at, constants_at, scratch_at, places, Order, Factored, picked, reciprocal_of}
+use Rattle.real_to_normal.specs.Work.{columns_at, factors_at, pre_at, constants_at, scratch_at, places, Order, Factored, reciprocal_of}
 
 -- where leg x's numbers begin
 place_of : (base size x : ℕ) → x < 3 → leg (places base size) x ≡ base + x * size

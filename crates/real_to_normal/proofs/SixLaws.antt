@@ -12,12 +12,12 @@ use Rattle.phonon.specs.Number.{◌⊕◌, ◌⊘◌, f0, f6, at, flagged, fold,
 use Rattle.phonon.specs.declared.Legs.{Legs}
 use Rattle.phonon.specs.Sets.{Tables}
 use Rattle.phonon.specs.Tests.{all_within}
-use Rattle.phonon.specs.Interaction.{orders, leg, exchanged}
+use Rattle.phonon.specs.Interaction.{orders, leg, exchanged, picked}
 use Rattle.phonon.specs.ReciprocalToNormal.{strength}
 use Rattle.phonon.proofs.Laws.{fold_step, table_ext, table_at, table_length}
 use Rattle.planes.specs.Region.{SameOutside}
 use Rattle.planes.proofs.LegOrders.{orders_lt}
-use Rattle.real_to_normal.specs.Work.{legs_end, work_end, slot_count, picked, reciprocal_of, leg_in, bands_of_slot, slot_in, sixth_of}
+use Rattle.real_to_normal.specs.Work.{legs_end, work_end, slot_count, reciprocal_of, leg_in, bands_of_slot, slot_in, sixth_of}
 use Rattle.real_to_normal.proofs.SlotLaws.{slot_bands, leg_is}
 
 -- leg x of the slot's phonons

@@ -11,7 +11,7 @@ use Rattle.phonon.specs.Number.{◌⊕◌, ◌⊘◌, f6, at, index, int, flagge
 use Rattle.phonon.specs.declared.Legs.{Legs}
 use Rattle.phonon.specs.Sets.{slot, part}
 use Rattle.phonon.specs.Tests.{all_within}
-use Rattle.phonon.specs.Interaction.{leg}
+use Rattle.phonon.specs.Interaction.{leg, picked}
 use Rattle.phonon.specs.ReciprocalToNormal.{strength}
 use Rattle.phonon.proofs.Laws.{table_ext, pair_lt}
 use Rattle.phonon.proofs.Accepted.{index_below}
@@ -22,7 +22,7 @@ use Rattle.planes.proofs.Products.{row_le}
 use Rattle.reciprocal_to_normal.specs.Slots.{b_of, j_of, k_of}
 use Rattle.reciprocal_to_normal.specs.Listing.{WroteAbove, source_place}
 use Rattle.reciprocal_to_normal.proofs.SlotLaws.{b_of_lem, j_of_lem, k_of_lem, j_lt, k_lt, b_lt}
-use Rattle.real_to_normal.specs.Work.{columns_at, places, Order, picked, leg_in, bands_of_slot, slot_in}
+use Rattle.real_to_normal.specs.Work.{columns_at, places, Order, leg_in, bands_of_slot, slot_in}
 use Rattle.real_to_normal.proofs.OrderLaws.{placed}
 
 -- one of three, from a list and by legs

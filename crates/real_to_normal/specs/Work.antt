@@ -106,10 +106,6 @@ pub record Prepared (l : List Float) (t : Tables) (g : Legs ℕ) (q : Legs (List
       ≡ column (3 * t.measures.atoms) t.phonons.eigenvectors (inverse_roots t.measures.atoms t.crystal.masses) (leg g x) n
   pub factors : Factored l t q
 
--- the legs x0, x1, x2, in this order
-abbrev pub picked : {A : Type 0} → Legs A → ℕ → ℕ → ℕ → Legs A
-picked s x0 x1 x2 = record { leg0 = leg s x0; leg1 = leg s x1; leg2 = leg s x2 }
-
 -- the force constants in reciprocal space at three q
 abbrev pub reciprocal_of : Tables → Legs (List Float) → List Float
 reciprocal_of t = reciprocal t.measures.atoms t.measures.supercell t.settings.anchoring t.crystal

@@ -2,26 +2,17 @@
 ghost use Rattle.std.specs.Prelude.{◌≡◌, ◌≤◌, length, get_or};
 ghost use Rattle.phonon.specs.Handed.{tables_of};
 ghost use Rattle.phonon.specs.Sets.{part};
+ghost use Rattle.phonon.specs.Interaction.{picked};
 ghost use Rattle.planes.specs.Region.{SameOutside};
 ghost use Rattle.planes.specs.Layout.{constants_in};
-ghost use Rattle.real_to_normal.specs.Work.{pre_at, constants_at, scratch_at, Shapes, Frequencies, Order, Factored, picked, reciprocal_of};
+ghost use Rattle.real_to_normal.specs.Work.{pre_at, constants_at, scratch_at, Shapes, Frequencies, Order, Factored, reciprocal_of};
 
 use crate::layout::Layout;
 use phonon::{Legs, Tables};
 use planes::part_of;
+use real_to_reciprocal::blocks::FactorPlaces;
 use real_to_reciprocal::phases::pre_phase_factors;
 use real_to_reciprocal::real_to_reciprocal;
-
-// The legs in this order.
-pub fn picked<T: Copy>(legs: &Legs<T>, order: [usize; 3]) -> Legs<T>
-    ensures { result ≡ picked legs.now (get_or order 0 0) (get_or order 1 0) (get_or order 2 0) }
-{
-    Legs {
-        leg0: legs.leg(order[0]),
-        leg1: legs.leg(order[1]),
-        leg2: legs.leg(order[2]),
-    }
-}
 
 // The frequencies of nb bands at each leg's grid point: the caller's own stretches, uncopied.
 pub fn frequencies_of(frequencies: &[f64], g: Legs<usize>, nb: usize) -> Legs<&[f64]>
@@ -50,13 +41,15 @@ pub fn order_constants(w: &mut [f64], tables: &Tables<'_>, q: &Legs<[f64; 3]>, o
 {
     let np = tables.measures.atoms;
     let at = Layout::of(tables.measures);
-    let f = picked(&at.factors, order);
-    let p = picked(q, order);
+    let p = q.picked(order);
     pre_phase_factors(w, at.pre, &p, &tables.crystal, np);
+    let f = FactorPlaces {
+        pre: at.pre,
+        legs: at.factors.picked(order),
+    };
     real_to_reciprocal(
         w,
         at.constants,
-        at.pre,
         f,
         tables.settings.anchoring,
         &tables.crystal.forces,

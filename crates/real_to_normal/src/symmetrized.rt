@@ -2,12 +2,13 @@
 ghost use Rattle.std.specs.Prelude.{◌≡◌, cond, ◌*◌, ◌≤◌, length, get_or};
 ghost use Rattle.phonon.specs.Number.{◌⊕◌, ◌⊘◌, f0, f6, at, flagged, fold, table};
 ghost use Rattle.phonon.specs.Handed.{tables_of};
+ghost use Rattle.phonon.specs.Interaction.{picked};
 ghost use Rattle.phonon.specs.ReciprocalToNormal.{strength};
 ghost use Rattle.planes.specs.Region.{SameOutside};
-ghost use Rattle.real_to_normal.specs.Work.{legs_end, work_end, slot_count, Shapes, Frequencies, Slots, Order, Factored, picked, reciprocal_of, slot_in, sixth_of};
+ghost use Rattle.real_to_normal.specs.Work.{legs_end, work_end, slot_count, Shapes, Frequencies, Slots, Order, Factored, reciprocal_of, slot_in, sixth_of};
 
 use crate::layout::Layout;
-use crate::order::{frequencies_of, order_constants, picked};
+use crate::order::{frequencies_of, order_constants};
 use phonon::{Legs, Tables};
 use planes::order_at;
 use reciprocal_to_normal::gather::{Listing, gather_sixth};
@@ -45,9 +46,9 @@ fn add_order(
     let o = Operands {
         atoms: np,
         constants: at.constants,
-        legs: picked(&at.columns, order),
+        legs: at.columns.picked(order),
         scratch: at.scratch,
-        freqs: frequencies_of(tables.phonons.frequencies, picked(&g, order), 3 * np),
+        freqs: frequencies_of(tables.phonons.frequencies, g.picked(order), 3 * np),
         cutoff: tables.settings.cutoff,
     };
     full_strengths(w, at.listing, &o);

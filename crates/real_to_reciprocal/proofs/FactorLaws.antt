@@ -8,7 +8,7 @@ use Rattle.phonon.specs.declared.Complex.{Complex}
 use Rattle.phonon.specs.declared.Anchoring.{Anchoring}
 use Rattle.phonon.specs.declared.Anchoring.TheVariants.{Plain, Averaged}
 use Rattle.phonon.specs.declared.Leg.{Leg}
-use Rattle.phonon.specs.declared.Legs.{Legs}
+use Rattle.real_to_reciprocal.specs.declared.blocks.FactorPlaces.{FactorPlaces}
 use Rattle.phonon.specs.Common.{czero, cadd, cmul, cat}
 use Rattle.phonon.specs.Sets.{Forces}
 use Rattle.phonon.specs.RealToReciprocal.{pair_taken, pair_term, element, Factors, over3, plain_element, averaged_element, anchored}
@@ -42,17 +42,17 @@ anchored_ext {P} {S} {w} {w'} c i j k l m n Averaged h pi pj pk =
     (ap₂ cmul (element_ext P S c _ _ _ _ _ j i k _ h.leg0 h.leg2 pj) (h.pre j pj)))
     (ap₂ cmul (element_ext P S c _ _ _ _ _ k j i _ h.leg1 h.leg0 pk) (h.pre k pk)))
 
-module _ {fo po P S : ℕ} {f : Legs ℕ} (h : FactorsBelow fo po f P S) {l l₁ : List Float} {b : ℕ} (w : SameOutside l l₁ fo b) where
-  outside_agree : Agree P S (factors_in l₁ po f P S) (factors_in l po f P S)
+module _ {fo P S : ℕ} {f : FactorPlaces} (h : FactorsBelow fo f P S) {l l₁ : List Float} {b : ℕ} (w : SameOutside l l₁ fo b) where
+  outside_agree : Agree P S (factors_in l₁ f P S) (factors_in l f P S)
   outside_agree = record {
-    pre = λ k p. split_outside w po P k (omega (arith, h.pre));
-    leg0 = λ n p. split_outside w f.leg0 (P * S) n (omega (arith, h.leg0));
-    leg1 = λ n p. split_outside w f.leg1 (P * S) n (omega (arith, h.leg1));
-    leg2 = λ n p. split_outside w f.leg2 (P * S) n (omega (arith, h.leg2));
+    pre = λ k p. split_outside w f.pre P k (omega (arith, h.pre));
+    leg0 = λ n p. split_outside w f.legs.leg0 (P * S) n (omega (arith, h.leg0));
+    leg1 = λ n p. split_outside w f.legs.leg1 (P * S) n (omega (arith, h.leg1));
+    leg2 = λ n p. split_outside w f.legs.leg2 (P * S) n (omega (arith, h.leg2));
   }
 
   pub component_outside : (c : Forces) (a : Anchoring) (al bm cn : ℕ) → al < 3 * P → bm < 3 * P → cn < 3 * P
-      → component_at S a c (factors_in l₁ po f P S) al bm cn ≡ component_at S a c (factors_in l po f P S) al bm cn
+      → component_at S a c (factors_in l₁ f P S) al bm cn ≡ component_at S a c (factors_in l f P S) al bm cn
   unfolding component_at
   component_outside c a al bm cn p q r = anchored_ext c (al / 3) (bm / 3) (cn / 3) _ _ _ a outside_agree (omega arith) (omega arith) (omega arith)
 
@@ -61,11 +61,11 @@ numbers_at : (l : List Float) (off d n k : ℕ) → k < n → split l off d k �
 unfolding numbers_in
 numbers_at l off d n k h = sym (ctable_at n k (split l off d) h)
 
-pub lists_agree : (l : List Float) (po : ℕ) (f : Legs ℕ) (P S : ℕ) → Agree P S (factors_in l po f P S)
-    (record { pre = cat (numbers_in l po P P); legs = record { leg0 = cat (numbers_in l f.leg0 (P * S) (P * S)); leg1 = cat (numbers_in l f.leg1 (P * S) (P * S)); leg2 = cat (numbers_in l f.leg2 (P * S) (P * S)) } })
-lists_agree l po f P S = record {
-  pre = λ k p. numbers_at l po P P k p;
-  leg0 = λ n p. numbers_at l f.leg0 (P * S) (P * S) n p;
-  leg1 = λ n p. numbers_at l f.leg1 (P * S) (P * S) n p;
-  leg2 = λ n p. numbers_at l f.leg2 (P * S) (P * S) n p;
+pub lists_agree : (l : List Float) (f : FactorPlaces) (P S : ℕ) → Agree P S (factors_in l f P S)
+    (record { pre = cat (numbers_in l f.pre P P); legs = record { leg0 = cat (numbers_in l f.legs.leg0 (P * S) (P * S)); leg1 = cat (numbers_in l f.legs.leg1 (P * S) (P * S)); leg2 = cat (numbers_in l f.legs.leg2 (P * S) (P * S)) } })
+lists_agree l f P S = record {
+  pre = λ k p. numbers_at l f.pre P P k p;
+  leg0 = λ n p. numbers_at l f.legs.leg0 (P * S) (P * S) n p;
+  leg1 = λ n p. numbers_at l f.legs.leg1 (P * S) (P * S) n p;
+  leg2 = λ n p. numbers_at l f.legs.leg2 (P * S) (P * S) n p;
 }

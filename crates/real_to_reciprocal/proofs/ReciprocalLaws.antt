@@ -7,7 +7,7 @@ use native.Mathlib.Omega.{arith}
 use lib.Ieee.{Float}
 use Rattle.phonon.specs.declared.Complex.{Complex}
 use Rattle.phonon.specs.declared.Anchoring.{Anchoring}
-use Rattle.phonon.specs.declared.Legs.{Legs}
+use Rattle.real_to_reciprocal.specs.declared.blocks.FactorPlaces.{FactorPlaces}
 use Rattle.phonon.specs.Sets.{Forces}
 use Rattle.phonon.specs.RealToReciprocal.{Factors, anchored, reciprocal_entry, reciprocal_from}
 use Rattle.phonon.proofs.Laws.{ctable_ext}
@@ -35,20 +35,20 @@ some : (P t : ℕ) → t < P * P * P * 27 → 0 < P
 some zero t h = absurd (omega arith)
 some (suc P) t h = omega arith
 
-module _ (fo po : ℕ) (f : Legs ℕ) (P S : ℕ) (h : FactorsBelow fo po f P S) (c : Forces) (a : Anchoring) where
+module _ (fo : ℕ) (f : FactorPlaces) (P S : ℕ) (h : FactorsBelow fo f P S) (c : Forces) (a : Anchoring) where
   abbrev pub value_in : List Float → ℕ → ℕ → ℕ → Complex
-  value_in l = component_at S a c (factors_in l po f P S)
+  value_in l = component_at S a c (factors_in l f P S)
 
   pub turn_k : {l l₁ l₂ t : List Float} (i j k : ℕ) → i < P → j < P → k < P
       → Stored l l₁ fo P (Box (3 * i) (3 * i + 3) (3 * j) (3 * j + 3) 0 (3 * k)) (value_in l)
-      → Cols t 27 (λ e. anchored S c (factors_in l₁ po f P S) i j k (e / 9) (e % 9 / 3) (e % 3) a)
+      → Cols t 27 (λ e. anchored S c (factors_in l₁ f P S) i j k (e / 9) (e % 9 / 3) (e % 3) a)
       → Stored l₁ l₂ fo P (Box (3 * i) (3 * i + 3) (3 * j) (3 * j + 3) (3 * k) (3 * k + 3)) (λ x y z. split t 0 27 (x % 3 * 9 + y % 3 * 3 + z % 3))
       → Stored l l₂ fo P (Box (3 * i) (3 * i + 3) (3 * j) (3 * j + 3) 0 (3 * (k + 1))) (value_in l)
   turn_k {l} {l₁} {l₂} {t} i j k pi pj pk w s v =
       let q : 3 * k + 3 ≡ 3 * (k + 1) = omega arith in
       join2 (omega arith) (omega arith) w
       (rw q at (stored_ext (value_in l) v (λ x y z b. s.col (x % 3 * 9 + y % 3 * 3 + z % 3) (omega arith)
-      ∙ component_of S a c (factors_in l₁ po f P S) i j k x y z b (x % 3 * 9 + y % 3 * 3 + z % 3) refl
+      ∙ component_of S a c (factors_in l₁ f P S) i j k x y z b (x % 3 * 9 + y % 3 * 3 + z % 3) refl
       ∙ component_outside h w.kept c a x y z (omega (arith, b.leg0.high)) (omega (arith, b.leg1.high)) (omega (arith, b.leg2.high)))))
 
   pub turn_j : {l l₁ l₂ : List Float} (i j : ℕ) → i < P → j < P
@@ -69,7 +69,7 @@ module _ (fo po : ℕ) (f : Legs ℕ) (P S : ℕ) (h : FactorsBelow fo po f P S)
 
   -- entry (x, y, z) of atoms i, j and k, once all is stored
   entry_of : {l l₁ : List Float} → Stored l l₁ fo P (Box 0 (3 * P) 0 (3 * P) 0 (3 * P)) (value_in l) → (i j k x y z : ℕ) → i < P → j < P → k < P → x < 3 → y < 3 → z < 3
-      → constant_at l₁ fo P (3 * i + x) (3 * j + y) (3 * k + z) ≡ anchored S c (factors_in l po f P S) i j k x y z a
+      → constant_at l₁ fo P (3 * i + x) (3 * j + y) (3 * k + z) ≡ anchored S c (factors_in l f P S) i j k x y z a
   unfolding component_at
   entry_of w i j k x y z pi pj pk px py pz =
       let ex : (3 * i + x) / 3 ≡ i = omega arith in
@@ -83,7 +83,7 @@ module _ (fo po : ℕ) (f : Legs ℕ) (P S : ℕ) (h : FactorsBelow fo po f P S)
       ∙ rw (ex, ey, ez, el, em, en)
 
   pub all_stored : {l l₁ : List Float} → Stored l l₁ fo P (Box 0 (3 * P) 0 (3 * P) 0 (3 * P)) (value_in l)
-      → constants_in l₁ fo P ≡ reciprocal_from P S a c (numbers_in l po P P) (record { leg0 = numbers_in l f.leg0 (P * S) (P * S); leg1 = numbers_in l f.leg1 (P * S) (P * S); leg2 = numbers_in l f.leg2 (P * S) (P * S) })
+      → constants_in l₁ fo P ≡ reciprocal_from P S a c (numbers_in l f.pre P P) (record { leg0 = numbers_in l f.legs.leg0 (P * S) (P * S); leg1 = numbers_in l f.legs.leg1 (P * S) (P * S); leg2 = numbers_in l f.legs.leg2 (P * S) (P * S) })
   unfolding constants_in constant_entry reciprocal_from reciprocal_entry
   all_stored {l} {l₁} w =
       ctable_ext (P * P * P * 27) _ _ (λ t p.
@@ -94,4 +94,4 @@ module _ (fo po : ℕ) (f : Legs ℕ) (P S : ℕ) (h : FactorsBelow fo po f P S)
       let j : t / 27 / P % P < P = mod-lt (t / 27 / P) o in
       let k : t / 27 % P < P = mod-lt (t / 27) o in
       entry_of w (t / 27 / P / P) (t / 27 / P % P) (t / 27 % P) (t % 27 / 9) (t % 27 % 9 / 3) (t % 27 % 3) i j k (omega arith) (omega arith) (omega arith)
-      ∙ anchored_ext c (t / 27 / P / P) (t / 27 / P % P) (t / 27 % P) (t % 27 / 9) (t % 27 % 9 / 3) (t % 27 % 3) a (lists_agree l po f P S) i j k)
+      ∙ anchored_ext c (t / 27 / P / P) (t / 27 / P % P) (t / 27 % P) (t % 27 / 9) (t % 27 % 9 / 3) (t % 27 % 3) a (lists_agree l f P S) i j k)

@@ -6,6 +6,7 @@ use Rattle.phonon.specs.declared.Legs.{Legs}
 use Rattle.phonon.specs.Sets.{Forces}
 use Rattle.phonon.specs.RealToReciprocal.{Factors, anchored}
 use Rattle.planes.specs.Split.{split}
+use Rattle.real_to_reciprocal.specs.declared.blocks.FactorPlaces.{FactorPlaces}
 use Rattle.planes.specs.Region.{SameOutside}
 use Rattle.planes.specs.Layout.{constant_at}
 
@@ -30,17 +31,17 @@ pub record Stored (l l' : List Float) (fo P : ℕ) (In : ℕ → ℕ → ℕ →
   pub inside : (al bm cn : ℕ) → al < 3 * P → bm < 3 * P → cn < 3 * P → In al bm cn → constant_at l' fo P al bm cn ≡ f al bm cn
   pub other : (al bm cn : ℕ) → al < 3 * P → bm < 3 * P → cn < 3 * P → (In al bm cn → ⊥) → constant_at l' fo P al bm cn ≡ constant_at l fo P al bm cn
 
--- the pre-factors from po on, and the phase factors of the three legs from f on
-abbrev pub factors_in : List Float → ℕ → Legs ℕ → ℕ → ℕ → Factors
-factors_in l po f P S =
-    record { pre = split l po P; legs = record { leg0 = split l f.leg0 (P * S); leg1 = split l f.leg1 (P * S); leg2 = split l f.leg2 (P * S) } }
+-- the pre-factors and the phase factors of the three legs, which stand at f
+abbrev pub factors_in : List Float → FactorPlaces → ℕ → ℕ → Factors
+factors_in l f P S =
+    record { pre = split l f.pre P; legs = record { leg0 = split l f.legs.leg0 (P * S); leg1 = split l f.legs.leg1 (P * S); leg2 = split l f.legs.leg2 (P * S) } }
 
 -- where they begin, all of them below e
-pub record FactorsBelow (e po : ℕ) (f : Legs ℕ) (P S : ℕ) : Type 0 where
-  pub pre : po + 2 * P ≤ e
-  pub leg0 : f.leg0 + 2 * (P * S) ≤ e
-  pub leg1 : f.leg1 + 2 * (P * S) ≤ e
-  pub leg2 : f.leg2 + 2 * (P * S) ≤ e
+pub record FactorsBelow (e : ℕ) (f : FactorPlaces) (P S : ℕ) : Type 0 where
+  pub pre : f.pre + 2 * P ≤ e
+  pub leg0 : f.legs.leg0 + 2 * (P * S) ≤ e
+  pub leg1 : f.legs.leg1 + 2 * (P * S) ≤ e
+  pub leg2 : f.legs.leg2 + 2 * (P * S) ≤ e
 
 -- three of P atoms
 pub record AtomsBelow (P : ℕ) (atoms : Legs ℕ) : Type 0 where

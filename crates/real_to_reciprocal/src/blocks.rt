@@ -76,26 +76,19 @@ fn store_run(w: &mut [f64], at: usize, d: usize, t: &[f64; 54], e: usize)
     }
 }
 
-// Nine numbers of t, from number e on: those of component al of the first leg, for atoms j and k.
-fn store_plane(
-    w: &mut [f64],
-    fo: usize,
-    np: usize,
-    al: usize,
-    j: usize,
-    k: usize,
-    t: &[f64; 54],
-    e: usize,
-)
-    requires { (e < 19) × (al < 3 * np) × (j < np) × (k < np) × (region_end fo np ≤ length w.old) }
-    ensures { Stored w.old w.new fo np (Box al (al + 1) (3 * j) (3 * j + 3) (3 * k) (3 * k + 3))
-        (λ x y z. split t.now 0 27 (e + y % 3 * 3 + z % 3)) }
+// Nine numbers of t: those of component l of the first leg, for three atoms.
+fn store_plane(w: &mut [f64], fo: usize, np: usize, atoms: Legs<usize>, l: usize, t: &[f64; 54])
+    requires { (l < 3) × AtomsBelow np atoms × (region_end fo np ≤ length w.old) }
+    ensures { Stored w.old w.new fo np
+        (Box (3 * atoms.leg0 + l) (3 * atoms.leg0 + l + 1) (3 * atoms.leg1) (3 * atoms.leg1 + 3) (3 * atoms.leg2) (3 * atoms.leg2 + 3))
+        (λ x y z. split t.now 0 27 (9 * l + y % 3 * 3 + z % 3)) }
 {
     let b = 3 * np;
     let d = b * b;
+    let al = 3 * atoms.leg0 + l;
     for n in 0..3 {
-        let cn = 3 * k + n;
-        store_run(w, fo + 2 * (al * d) + (cn * b + 3 * j), d, t, e + n);
+        let cn = 3 * atoms.leg2 + n;
+        store_run(w, fo + 2 * (al * d) + (cn * b + 3 * atoms.leg1), d, t, 9 * l + n);
     }
 }
 
@@ -107,16 +100,29 @@ pub fn store_block(w: &mut [f64], fo: usize, np: usize, atoms: Legs<usize>, t: &
         (λ x y z. split t.now 0 27 (x % 3 * 9 + y % 3 * 3 + z % 3)) }
 {
     for l in 0..3 {
-        store_plane(
-            w,
-            fo,
-            np,
-            3 * atoms.leg0 + l,
-            atoms.leg1,
-            atoms.leg2,
-            t,
-            9 * l,
-        );
+        store_plane(w, fo, np, atoms, l, t);
+    }
+}
+
+// Where the pre-factors stand in the work slice, and the phase factors of the three legs.
+#[derive(Clone, Copy)]
+pub struct FactorPlaces {
+    pub pre: usize,
+    pub legs: Legs<usize>,
+}
+
+impl FactorPlaces {
+    ghost use Rattle.std.specs.Prelude.{◌≡◌, get_or};
+    ghost use Rattle.phonon.specs.Interaction.{picked};
+
+    // With the legs in this order.
+    fn picked(&self, order: [usize; 3]) -> FactorPlaces
+        ensures { result ≡ record { pre = self.now.pre; legs = picked self.now.legs (get_or order 0 0) (get_or order 1 0) (get_or order 2 0) } }
+    {
+        FactorPlaces {
+            pre: self.pre,
+            legs: self.legs.picked(order),
+        }
     }
 }
 
@@ -126,82 +132,45 @@ pub fn store_block(w: &mut [f64], fo: usize, np: usize, atoms: Legs<usize>, t: &
 fn leg_block(
     t: &mut [f64; 54],
     w: &[f64],
-    po: usize,
-    f1: usize,
-    f2: usize,
+    f: FactorPlaces,
     cell: &Supercell<'_>,
     leg: Leg,
     atoms: Legs<usize>,
 )
-    requires { (po + 2 * cell.now.np ≤ length w.now)
-        × (f1 + 2 * (cell.now.np * cell.now.ns) ≤ length w.now)
-        × (f2 + 2 * (cell.now.np * cell.now.ns) ≤ length w.now)
-        × AtomsBelow cell.now.np atoms }
+    requires { FactorsBelow (length w.now) f cell.now.np cell.now.ns × AtomsBelow cell.now.np atoms }
     ensures { Cols t.new 27
         (λ e. cmul
         (Def.element cell.now.ns (forces_of cell.now.forces) leg
-        (split w.now f1 (cell.now.np * cell.now.ns)) (split w.now f2 (cell.now.np * cell.now.ns))
+        (split w.now f.legs.leg1 (cell.now.np * cell.now.ns)) (split w.now f.legs.leg2 (cell.now.np * cell.now.ns))
         atoms.leg0 atoms.leg1 atoms.leg2 e)
-        (split w.now po cell.now.np atoms.leg0)) }
+        (split w.now f.pre cell.now.np atoms.leg0)) }
 {
-    *t = real_to_reciprocal_elements(w, f1, f2, cell, leg, atoms);
-    let z = get_split(w, po, cell.np, atoms.leg0);
+    *t = real_to_reciprocal_elements(w, f.legs.leg1, f.legs.leg2, cell, leg, atoms);
+    let z = get_split(w, f.pre, cell.np, atoms.leg0);
     change_each(t, |_, s| cmplx_mul(s, z));
 }
 
-// Writes the block of three atoms to t, anchored at each in turn and averaged.
+// Writes the block of three atoms to t, anchored at each in turn and averaged: the second and the third leg take the first's place.
 fn r0_average_block(
     t: &mut [f64; 54],
     w: &[f64],
-    po: usize,
-    f: Legs<usize>,
+    f: FactorPlaces,
     cell: &Supercell<'_>,
     atoms: Legs<usize>,
 )
-    requires { FactorsBelow (length w.now) po f cell.now.np cell.now.ns × AtomsBelow cell.now.np atoms }
+    requires { FactorsBelow (length w.now) f cell.now.np cell.now.ns × AtomsBelow cell.now.np atoms }
     ensures { Cols t.new 27
         (λ e. Def.averaged_element cell.now.ns (forces_of cell.now.forces)
-        (factors_in w.now po f cell.now.np cell.now.ns)
+        (factors_in w.now f cell.now.np cell.now.ns)
         atoms.leg0 atoms.leg1 atoms.leg2 (e / 9) (e % 9 / 3) (e % 3)) }
 {
     let mut second: [f64; 54] = [0.0; 54];
     let mut third: [f64; 54] = [0.0; 54];
-    let Legs {
-        leg0: i,
-        leg1: j,
-        leg2: k,
-    } = atoms;
-    leg_block(t, w, po, f.leg1, f.leg2, cell, Leg::First, atoms);
-    let exchanged = Legs {
-        leg0: j,
-        leg1: i,
-        leg2: k,
-    };
-    leg_block(
-        &mut second,
-        w,
-        po,
-        f.leg0,
-        f.leg2,
-        cell,
-        Leg::Second,
-        exchanged,
-    );
-    let reversed = Legs {
-        leg0: k,
-        leg1: j,
-        leg2: i,
-    };
-    leg_block(
-        &mut third,
-        w,
-        po,
-        f.leg1,
-        f.leg0,
-        cell,
-        Leg::Third,
-        reversed,
-    );
+    let one = [1, 0, 2];
+    let two = [2, 1, 0];
+    leg_block(t, w, f, cell, Leg::First, atoms);
+    leg_block(&mut second, w, f.picked(one), cell, Leg::Second, atoms.picked(one));
+    leg_block(&mut third, w, f.picked(two), cell, Leg::Third, atoms.picked(two));
     average(t, &second, &third);
 }
 
@@ -209,20 +178,19 @@ fn r0_average_block(
 pub fn block(
     t: &mut [f64; 54],
     w: &[f64],
-    po: usize,
-    f: Legs<usize>,
+    f: FactorPlaces,
     cell: &Supercell<'_>,
     anchoring: Anchoring,
     atoms: Legs<usize>,
 )
-    requires { FactorsBelow (length w.now) po f cell.now.np cell.now.ns × AtomsBelow cell.now.np atoms }
+    requires { FactorsBelow (length w.now) f cell.now.np cell.now.ns × AtomsBelow cell.now.np atoms }
     ensures { Cols t.new 27
         (λ e. Def.anchored cell.now.ns (forces_of cell.now.forces)
-        (factors_in w.now po f cell.now.np cell.now.ns)
+        (factors_in w.now f cell.now.np cell.now.ns)
         atoms.leg0 atoms.leg1 atoms.leg2 (e / 9) (e % 9 / 3) (e % 3) anchoring) }
 {
     match anchoring {
-        Anchoring::Plain => leg_block(t, w, po, f.leg1, f.leg2, cell, Leg::Alone, atoms),
-        Anchoring::Averaged => r0_average_block(t, w, po, f, cell, atoms),
+        Anchoring::Plain => leg_block(t, w, f, cell, Leg::Alone, atoms),
+        Anchoring::Averaged => r0_average_block(t, w, f, cell, atoms),
     }
 }

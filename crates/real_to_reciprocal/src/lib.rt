@@ -15,17 +15,15 @@ ghost use Rattle.planes.specs.Layout.{constants_in, numbers_in};
 ghost use Rattle.real_to_reciprocal.specs.Shape.{Shaped};
 ghost use Rattle.real_to_reciprocal.specs.Stored.{region_end, FactorsBelow};
 
-use crate::blocks::{block, store_block};
+use crate::blocks::{FactorPlaces, block, store_block};
 use crate::supercell::{Supercell, first_copies, later_copies};
 use phonon::{Anchoring, Forces, Legs};
 
-// The force constants in reciprocal space, in the region of w from fo on. The pre-factors are in planes from po on,
-// the phase factors of the three legs from f on, all below fo.
+// The force constants in reciprocal space, in the region of w from fo on. The factors lie below it, in planes.
 pub fn real_to_reciprocal(
     w: &mut [f64],
     fo: usize,
-    po: usize,
-    f: Legs<usize>,
+    f: FactorPlaces,
     anchoring: Anchoring,
     forces: &Forces<'_>,
     np: usize,
@@ -34,15 +32,15 @@ pub fn real_to_reciprocal(
     requires { (np ≤ 256)
         × (ns ≤ 256)
         × Shaped np ns (forces_of forces.now)
-        × FactorsBelow fo po f np ns
+        × FactorsBelow fo f np ns
         × (region_end fo np ≤ length w.old) }
     ensures { (constants_in w.new fo np ≡ reciprocal_from np ns anchoring
         (forces_of forces.now)
-        (numbers_in w.old po np np)
+        (numbers_in w.old f.pre np np)
         (record {
-          leg0 = numbers_in w.old f.leg0 (np * ns) (np * ns);
-          leg1 = numbers_in w.old f.leg1 (np * ns) (np * ns);
-          leg2 = numbers_in w.old f.leg2 (np * ns) (np * ns);
+          leg0 = numbers_in w.old f.legs.leg0 (np * ns) (np * ns);
+          leg1 = numbers_in w.old f.legs.leg1 (np * ns) (np * ns);
+          leg2 = numbers_in w.old f.legs.leg2 (np * ns) (np * ns);
         }))
         × SameOutside w.old w.new fo (region_end fo np) }
 {
@@ -66,7 +64,7 @@ pub fn real_to_reciprocal(
                     leg1: j,
                     leg2: k,
                 };
-                block(&mut t, w, po, f, &cell, anchoring, atoms);
+                block(&mut t, w, f, &cell, anchoring, atoms);
                 store_block(w, fo, np, atoms, &t);
             }
         }

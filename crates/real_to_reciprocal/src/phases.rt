@@ -11,7 +11,7 @@ ghost use Rattle.real_to_reciprocal.specs.Shape.{Anchored, Ranged};
 
 use common::{cmplx_add, cmplx_scale, float_of};
 use funcs::{sin_cos, sin_cos_three};
-use phonon::{Complex, Crystal, Grid, Legs, SinCos};
+use phonon::{Complex, Crystal, Grid, Legs};
 use planes::{index_at, put_split};
 
 // 400921FB54442D18
@@ -61,22 +61,12 @@ pub fn phase(q: &[f64; 3], vectors: &[f64], v: usize) -> f64
     (q[0] * vectors[3 * v] + q[1] * vectors[3 * v + 1] + q[2] * vectors[3 * v + 2]) * 2.0 * PI
 }
 
-// A sine and a cosine as a complex number, whose real part is the cosine.
-fn as_complex(p: SinCos) -> Complex
-    ensures { result ≡ Def.as_complex p }
-{
-    Complex {
-        re: p.cos,
-        im: p.sin,
-    }
-}
-
 // The cosine and the sine of x.
 #[tactic(auto, unfolding(phonon::specs::RealToReciprocal::cis))]
 fn cis(x: f64) -> Complex
     ensures { result ≡ Def.cis x }
 {
-    as_complex(sin_cos(x))
+    Complex::from(sin_cos(x))
 }
 
 // The sums of the three legs with the factors of one vector more, whose phases at the three q are x. Worked at once they
@@ -89,9 +79,9 @@ fn add_factors(sum: Legs<Complex>, x: Legs<f64>) -> Legs<Complex>
 {
     let t = sin_cos_three(x);
     Legs {
-        leg0: cmplx_add(sum.leg0, as_complex(t.leg0)),
-        leg1: cmplx_add(sum.leg1, as_complex(t.leg1)),
-        leg2: cmplx_add(sum.leg2, as_complex(t.leg2)),
+        leg0: cmplx_add(sum.leg0, Complex::from(t.leg0)),
+        leg1: cmplx_add(sum.leg1, Complex::from(t.leg1)),
+        leg2: cmplx_add(sum.leg2, Complex::from(t.leg2)),
     }
 }
 
@@ -114,6 +104,7 @@ fn get_phase_factors(
         leg2: zero,
     };
     for v in start..start + count {
+        // Leg by leg: to `map` the closure had to say by a clause that vector v is there.
         let x = Legs {
             leg0: phase(&q.leg0, vectors, v),
             leg1: phase(&q.leg1, vectors, v),
@@ -122,19 +113,14 @@ fn get_phase_factors(
         sum = add_factors(sum, x);
     }
     let s = 1.0 / float_of(count);
-    Legs {
-        leg0: cmplx_scale(sum.leg0, s),
-        leg1: cmplx_scale(sum.leg1, s),
-        leg2: cmplx_scale(sum.leg2, s),
-    }
+    sum.map(|z| cmplx_scale(z, s))
 }
 
 // The phase factors of atom i and each supercell atom, at the three q: numbers i * ns to i * ns + ns of three arrays, one behind
-// the other from fo on, whose planes are d apart.
+// the other from fo on, of np * ns numbers each.
 fn phase_factor_row(
     w: &mut [f64],
     fo: usize,
-    d: usize,
     q: &Legs<[f64; 3]>,
     crystal: &Crystal<'_>,
     np: usize,
@@ -142,14 +128,14 @@ fn phase_factor_row(
     i: usize,
 )
     requires { (i < np)
-        × (np * ns ≤ d)
-        × (array_at fo d 3 ≤ length w.old)
+        × (array_at fo (np * ns) 3 ≤ length w.old)
         × Ranged crystal.now.vectors.now crystal.now.multiplicity.now (ns * np) }
-    ensures { WroteThree w.old w.new fo d (i * ns) (i * ns + ns)
+    ensures { WroteThree w.old w.new fo (np * ns) (i * ns) (i * ns + ns)
         (λ x. Def.phase_factor_entry np ns crystal.now.vectors.now crystal.now.multiplicity.now (leg q.now x)) }
 {
     let vectors = crystal.vectors;
     let multiplicity = crystal.multiplicity;
+    let d = np * ns;
     let f1 = fo + 2 * d;
     let f2 = f1 + 2 * d;
     for j in 0..ns {
@@ -179,9 +165,8 @@ pub fn phase_factors(
     ensures { WroteThree w.old w.new fo (np * ns) 0 (np * ns)
         (λ x. Def.phase_factor_entry np ns crystal.now.vectors.now crystal.now.multiplicity.now (leg q.now x)) }
 {
-    let d = np * ns;
     for i in 0..np {
-        phase_factor_row(w, fo, d, q, crystal, np, ns, i);
+        phase_factor_row(w, fo, q, crystal, np, ns, i);
     }
 }
 

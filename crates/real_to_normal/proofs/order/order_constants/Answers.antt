@@ -12,7 +12,7 @@ returns c =
     let e = c.picked-p.ensures in
     let l = c.of-at.ensures in
     let s = l.1 in
-    let f = c.picked-f.ensures in
+    let f = c.picked.ensures in
     let w = rw l.2 at c.pre_phase_factors.ensures in
     let r = rw (l.2, l.3) at c.real_to_reciprocal.ensures in
     (order_is t a.order o a.q.now e s f h w r.0 r.1, order_outside t a.order o a.q.now e s f h w r.0 r.1)

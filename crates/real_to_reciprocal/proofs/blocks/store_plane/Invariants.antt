@@ -5,4 +5,4 @@ use Rattle.real_to_reciprocal.specs.Stored.{Box, Stored}
 use Rattle.real_to_reciprocal.proofs.blocks.store_plane.Given as goal
 
 abbrev pub invariant-loop-n : goal.invariant-loop-n
-invariant-loop-n l = (l.n ≤ 3) × Stored l.initial.w l.w l.fo l.np (Box l.al (l.al + 1) (3 * l.j) (3 * l.j + 3) (3 * l.k) (3 * l.k + l.n)) (λ x y z. split l.t 0 27 (l.e + y % 3 * 3 + z % 3))
+invariant-loop-n l = (l.n ≤ 3) × Stored l.initial.w l.w l.fo l.np (Box (3 * l.atoms.leg0 + l.l) (3 * l.atoms.leg0 + l.l + 1) (3 * l.atoms.leg1) (3 * l.atoms.leg1 + 3) (3 * l.atoms.leg2) (3 * l.atoms.leg2 + l.n)) (λ x y z. split l.t 0 27 (9 * l.l + y % 3 * 3 + z % 3))

@@ -3,6 +3,7 @@ use mathlib.Core.Path.{◌≡◌, refl}
 use Prim.Native.Nat.{◌+◌, ◌-◌}
 use Rattle.real_to_reciprocal.proofs.PhaseLaws.{sum_none, sum_turn, mean_of}
 use native.Mathlib.Omega.{arith}
+use borrow.Author.Rules.{rules}
 use Rattle.real_to_reciprocal.proofs.phases.get_phase_factors.Goals as goal
 
 pub loop-v-init : goal.loop-v-init
@@ -28,9 +29,9 @@ pub returns : goal.returns
 returns c =
     let l = c.loop-v in
     let n = c.args.count in
-    let f = c.float_of-s.ensures in
+    let f = c.float_of.ensures in
     let e : l.v - c.args.start ≡ n = omega arith in (
-      mean_of _ _ _ n (rw e at l.invariant.2) f c.cmplx_scale.ensures,
-      mean_of _ _ _ n (rw e at l.invariant.3) f c.cmplx_scale-2.ensures,
-      mean_of _ _ _ n (rw e at l.invariant.4) f c.cmplx_scale-3.ensures,
+      mean_of _ _ _ n (rw e at l.invariant.2) f (search rules),
+      mean_of _ _ _ n (rw e at l.invariant.3) f (search rules),
+      mean_of _ _ _ n (rw e at l.invariant.4) f (search rules),
     )

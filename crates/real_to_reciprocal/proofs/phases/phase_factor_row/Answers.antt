@@ -18,13 +18,13 @@ inside c = pair_lt c.requires.0 c.loop-j-test.true
 
 pub get_phase_factors-z-requires : goal.get_phase_factors-z-requires
 get_phase_factors-z-requires c =
-    let r = ranged_at c.requires.3 _ (below (goal.at.get_phase_factors-z-requires c).In-loop-j) in
-    omega (arith, r.ends, c.requires.3.room, c.index_at-count.ensures, c.index_at-start.ensures)
+    let r = ranged_at c.requires.2 _ (below (goal.at.get_phase_factors-z-requires c).In-loop-j) in
+    omega (arith, r.ends, c.requires.2.room, c.index_at-count.ensures, c.index_at-start.ensures)
 
 pub loop-j-preserved : goal.loop-j-preserved
 loop-j-preserved c =
     let k = inside (goal.at.loop-j-preserved c).In-loop-j in
-    let r = ranged_at c.requires.3 _ (below (goal.at.loop-j-preserved c).In-loop-j) in
+    let r = ranged_at c.requires.2 _ (below (goal.at.loop-j-preserved c).In-loop-j) in
     let z = c.get_phase_factors-z.ensures in
     let n = c.index_at-count.ensures in
     let m = c.index_at-start.ensures in
@@ -32,7 +32,7 @@ loop-j-preserved c =
     let e : a.i * a.ns + (c.loop-j.j + 1) ≡ a.i * a.ns + c.loop-j.j + 1 = omega arith in (
       omega (arith, c.loop-j-test.true),
       rw e
-          (three_step _ _ _ c.loop-j.invariant.1 (omega arith) (omega (arith, k, c.requires.1)) c.requires.2 (omega arith) (omega arith) (omega arith) c.put_split.ensures c.put_split-in-loop-j.ensures c.put_split-in-loop-j-2.ensures
+          (three_step _ _ _ c.loop-j.invariant.1 (omega arith) k c.requires.1 (omega arith) (omega arith) (omega arith) c.put_split.ensures c.put_split-in-loop-j.ensures c.put_split-in-loop-j-2.ensures
           (factor_at _ _ z.0 n m r ∙ row_entry_lem _ _ _ _ _ a.i c.loop-j.j c.loop-j-test.true)
           (factor_at _ _ z.1 n m r ∙ row_entry_lem _ _ _ _ _ a.i c.loop-j.j c.loop-j-test.true)
           (factor_at _ _ z.2 n m r ∙ row_entry_lem _ _ _ _ _ a.i c.loop-j.j c.loop-j-test.true)),

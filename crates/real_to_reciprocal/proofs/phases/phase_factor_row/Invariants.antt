@@ -6,4 +6,4 @@ use Rattle.real_to_reciprocal.specs.Three.{WroteThree}
 use Rattle.real_to_reciprocal.proofs.phases.phase_factor_row.Given as goal
 
 abbrev pub invariant-loop-j : goal.invariant-loop-j
-invariant-loop-j l = (l.j ≤ l.ns) × WroteThree l.initial.w l.w l.fo l.d (l.i * l.ns) (l.i * l.ns + l.j) (λ x. phase_factor_entry l.np l.ns l.vectors l.multiplicity (leg l.q x))
+invariant-loop-j l = (l.j ≤ l.ns) × WroteThree l.initial.w l.w l.fo (l.np * l.ns) (l.i * l.ns) (l.i * l.ns + l.j) (λ x. phase_factor_entry l.np l.ns l.vectors l.multiplicity (leg l.q x))
