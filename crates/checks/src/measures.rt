@@ -23,6 +23,7 @@ pub fn measures_ok(m: Measures) -> bool
         & (1..=limits::MOST_VECTORS).contains(&m.vectors)
 }
 
+#[tactic(auto, using(crate::proofs::MeasureLaws::small, crate::proofs::AnswerLaws::passed))]
 pub fn check_measures(m: Measures, form: Form) -> Result<Sizes, Refusal>
     ensures { result ≡ measured_of m form }
 {

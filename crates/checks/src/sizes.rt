@@ -16,6 +16,7 @@ fn rows_of(m: Measures, form: Form) -> usize
     }
 }
 
+#[tactic(auto, using(crate::proofs::SizeLaws::products))]
 pub fn sizes_of(m: Measures, form: Form) -> Sizes
     requires { Small 65536 m }
     ensures { result ≡ sizes_of m form }

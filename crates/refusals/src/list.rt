@@ -11,6 +11,7 @@ use checks::measures::{check_measures, list_ok};
 use checks::verdict::{lower_of, require};
 use phonon::{Refusal, Tables};
 
+#[tactic(auto, using(checks::proofs::MeasureLaws::within_told, phonon::proofs::Accepted::measured_facts, checks::proofs::MeasureLaws::list_slots, checks::proofs::MeasureLaws::list_small))]
 pub fn check_list(
     tables: &Tables<'_>,
     list: usize,

@@ -13,6 +13,7 @@ use checks::verdict::require;
 use phonon::{Crystal, Grid, Measures, Phonons, Refusal, Tables};
 
 // 2: the lengths of all.
+#[tactic(auto, using(checks::proofs::MeasureLaws::small))]
 fn lengths_ok(tables: &Tables<'_>) -> bool
     requires { measures_ok tables.now.measures ≡ true }
     ensures { result ≡ all_true (table_lengths tables.now.measures
@@ -37,6 +38,7 @@ fn lengths_ok(tables: &Tables<'_>) -> bool
 }
 
 // 3: p2s, s2p, bands and vector ranges.
+#[tactic(auto, using(phonon::proofs::Accepted::measured_facts))]
 fn indices_ok(m: Measures, crystal: &Crystal<'_>, bands: &[i64]) -> bool
     requires { (measures_ok m ≡ true) × (length crystal.now.multiplicity.now ≡ 2 * (m.supercell * m.atoms)) }
     ensures { result ≡ indices_ok m crystal.now.multiplicity.now crystal.now.forces.p2s.now

@@ -12,6 +12,7 @@ use checks::measures::check_measures;
 use checks::verdict::{lower_of, require};
 use phonon::{Refusal, Tables};
 
+#[tactic(auto, using(checks::proofs::MeasureLaws::within_told, phonon::proofs::Accepted::measured_facts))]
 pub fn check_triplet(
     tables: &Tables<'_>,
     triplet: [i64; 3],

@@ -6,22 +6,18 @@ use mathlib.Core.Bool.{true}
 use borrow.Author.Tests.{eqb-true}
 use lib.ListN.{length}
 use Rattle.phonon.specs.Handed.{tables_of}
-use Rattle.phonon.specs.Limits.{list_ok, sizes_of}
+use Rattle.phonon.specs.Limits.{sizes_of}
 use Rattle.phonon.specs.Refusal.{measures_ok, count_tests, list_refusal}
 use Rattle.phonon.proofs.Answers.{number_positive}
 use Rattle.phonon.proofs.Lowest.{one_fails, none_of_three, lower_none, join, join3, passing, before_last, at_last}
-use Rattle.phonon.proofs.Accepted.{measured_facts}
-use Rattle.checks.proofs.AnswerLaws.{passed, turned, handed_on, of_one}
-use Rattle.checks.proofs.MeasureLaws.{within_told, beyond_told, list_small, list_slots}
+use Rattle.checks.proofs.AnswerLaws.{turned, handed_on, of_one}
+use Rattle.checks.proofs.MeasureLaws.{within_told, beyond_told}
 use Rattle.refusals.proofs.TableLaws.{phases_safe, slots_same}
 use Rattle.refusals.proofs.list.check_list.Goals as goal
-use Rattle.refusals.proofs.list.check_list.Goals.{In_ok-z, In_ok-require}
+use Rattle.refusals.proofs.list.check_list.Goals.{In_ok-z}
 
 good_measures : (c : In_ok-z) → (measures_ok c.args.tables.now.measures ≡ true) × (c.in_ok-z.z ≡ sizes_of c.args.tables.now.measures c.args.tables.now.crystal.forces.form)
 good_measures c = within_told _ _ (sym c.check_measures.ensures ∙ c.in_ok-z.was)
-
-good_count : (c : In_ok-require) → list_ok c.args.list ≡ true
-good_count c = sym c.list_ok.ensures ∙ passed _ _ c.require.ensures c.in_ok-require.was
 
 pub returns-in_err-z : goal.returns-in_err-z
 unfolding list_refusal
@@ -32,20 +28,6 @@ returns-in_err-z c =
 pub returns-in_err-require : goal.returns-in_err-require
 unfolding list_refusal
 returns-in_err-require c = turned _ _ _ refl c.list_ok.ensures c.require.ensures c.in_err-require.was c.from_residual-in_err-require.ensures.1
-
-pub overflow_mul-list : goal.overflow_mul-list
-overflow_mul-list c =
-    let p = goal.at.overflow_mul-list c in
-    let w = good_measures p.In_ok-z in
-    omega (arith, list_slots c.args.tables.now.measures c.args.tables.now.crystal.forces.form w.0 w.1 (list_small c.args.list (good_count p.In_ok-require)))
-
-pub check_points-points-requires : goal.check_points-points-requires
-check_points-points-requires c =
-    let m = measured_facts _ (good_measures (goal.at.check_points-points-requires c).In_ok-z).0 in
-    (m.grid, omega (arith, m.grid_most))
-
-pub check_tables-requires : goal.check_tables-requires
-check_tables-requires c = (good_measures (goal.at.check_tables-requires c).In_ok-z).0
 
 pub returns-in_err-lower_of : goal.returns-in_err-lower_of
 unfolding list_refusal

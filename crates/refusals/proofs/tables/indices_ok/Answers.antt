@@ -9,21 +9,6 @@ use Rattle.phonon.proofs.Accepted.{measured_facts}
 use Rattle.phonon.specs.Refusal.{indices_ok}
 use Rattle.refusals.proofs.tables.indices_ok.Goals as goal
 
-pub overflow_sub-last_atom : goal.overflow_sub-last_atom
-overflow_sub-last_atom c = let h = measured_facts _ c.requires.0 in omega arith
-
-pub overflow_cast-last_atom : goal.overflow_cast-last_atom
-overflow_cast-last_atom c = let h = measured_facts _ c.requires.0 in record { sfits = omega arith }
-
-pub overflow_mul-last_band : goal.overflow_mul-last_band
-overflow_mul-last_band c = let h = measured_facts _ c.requires.0 in omega arith
-
-pub overflow_sub-last_band : goal.overflow_sub-last_band
-overflow_sub-last_band c = let h = measured_facts _ c.requires.0 in omega arith
-
-pub overflow_cast-last_band : goal.overflow_cast-last_band
-overflow_cast-last_band c = let h = measured_facts _ c.requires.0 in record { sfits = omega arith }
-
 pub returns : goal.returns
 unfolding indices_ok all_true all_true_after
 returns c =

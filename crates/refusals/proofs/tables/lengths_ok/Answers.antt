@@ -2,11 +2,7 @@
 use mathlib.Core.Path.{refl, sym}
 use Rattle.phonon.specs.Tests.{all_true, all_true_after}
 use Rattle.phonon.specs.Refusal.{table_lengths}
-use Rattle.checks.proofs.MeasureLaws.{small}
 use Rattle.refusals.proofs.tables.lengths_ok.Goals as goal
-
-pub sizes_of-z-requires : goal.sizes_of-z-requires
-sizes_of-z-requires c = small _ c.requires
 
 pub returns : goal.returns
 unfolding table_lengths all_true all_true_after

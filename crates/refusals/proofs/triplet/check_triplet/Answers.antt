@@ -9,7 +9,6 @@ use Rattle.phonon.specs.Limits.{sizes_of}
 use Rattle.phonon.specs.Refusal.{measures_ok, triplet_refusal}
 use Rattle.phonon.proofs.Answers.{number_positive}
 use Rattle.phonon.proofs.Lowest.{none_of_three, stop, join3, before_last, at_last}
-use Rattle.phonon.proofs.Accepted.{measured_facts}
 use Rattle.checks.proofs.AnswerLaws.{handed_on, of_one}
 use Rattle.checks.proofs.MeasureLaws.{within_told, beyond_told}
 use Rattle.refusals.proofs.TableLaws.{phases_safe, slots_same}
@@ -24,14 +23,6 @@ unfolding triplet_refusal
 returns-in_err-z c =
     let b = beyond_told _ _ (sym c.check_measures.ensures ∙ c.in_err-z.was) in
     rw (handed_on _ c.from_residual.ensures.1, b.1) (sym (stop 0 _ refl b.0))
-
-pub check_points-points-requires : goal.check_points-points-requires
-check_points-points-requires c =
-    let m = measured_facts _ (good_measures (goal.at.check_points-points-requires c).In_ok-z).0 in
-    (m.grid, omega (arith, m.grid_most))
-
-pub check_tables-requires : goal.check_tables-requires
-check_tables-requires c = (good_measures (goal.at.check_tables-requires c).In_ok-z).0
 
 pub returns-in_err-lower_of : goal.returns-in_err-lower_of
 unfolding triplet_refusal
