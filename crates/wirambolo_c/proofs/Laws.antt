@@ -37,6 +37,12 @@ of_two a b zero = refl
 of_two a b (suc zero) = refl
 of_two a b (suc (suc x)) = rw (lt-leb (suc (suc x)) 1 (omega arith)) refl
 
+pub given_two : {A : Type 0} (a b : A) (x : ℕ) {f : A} {o : Option A} → o ≡ slice_get (a ∷ b ∷ []) x → o ≡ Some f → (known x ≡ true) × (f ≡ cond (eqb x 0) a b)
+given_two a b x e h = given (known x) (cond (eqb x 0) a b) (e ∙ of_two a b x) h
+
+pub missing_two : {A : Type 0} (a b : A) (x : ℕ) {o : Option A} → o ≡ slice_get (a ∷ b ∷ []) x → o ≡ None → known x ≡ false
+missing_two a b x e h = missing (known x) (cond (eqb x 0) a b) (e ∙ of_two a b x) h
+
 pub of_three : {A : Type 0} (a b c : A) (x : ℕ) → slice_get (a ∷ b ∷ c ∷ []) x ≡ cond (shape_known x) (Some (cond (eqb x 0) a (cond (eqb x 1) b c))) None
 unfolding shape_known
 of_three a b c zero = refl
