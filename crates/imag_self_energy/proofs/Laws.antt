@@ -1,15 +1,15 @@
 -- Laws of bands, slots and sums: what the loops work out from the bands that they hold is the definition's total.
-use Prim.Native.Nat.{ℕ, zero, suc, ◌+◌, ◌*◌, ◌<◌, ◌≤◌}
+use Prim.Native.Nat.{ℕ, ◌+◌, ◌*◌, ◌<◌, ◌≤◌}
 use native.Mathlib.Nat.{mul-le-mul_right, mul_assoc, one-mul, eq-or-lt_of_le}
 use native.Mathlib.Omega.{arith}
 use mathlib.Core.Path.{◌≡◌, refl, sym, ap, ◌∙◌}
 use mathlib.Core.Bool.{Bool, true, false, not, ◌&&◌, cond, not-not}
-use mathlib.Core.List.{List, [], ◌∷◌, map}
+use mathlib.Core.List.{List}
 use mathlib.Core.Logic.{⊎_elim}
 use lib.Dec.{eqb}
 use lib.Ieee.{Float, nan, lt}
 use lib.ListN.{get_or, length, set, length-set}
-use Rattle.std.proofs.lemmas.List.{length-map}
+use Rattle.std.proofs.lemmas.List.{length-map, get_or-map}
 use lib.Seq.{get_or-set_same, get_or-set_other, ext_get_or}
 use Rattle.phonon.specs.declared.Band.{Band}
 use Rattle.phonon.specs.declared.Weights.{Weights}
@@ -101,14 +101,9 @@ band_made : (h : Shared) (f n : Float) → n ≡ marked h.temperature h.cutoff f
 unfolding band_of
 band_made h f n e = rw e refl
 
-map_at : {A B : Type 0} (f : A → B) (l : List A) (i : ℕ) (d : B) (e : A) → i < length l → get_or (map f l) i d ≡ f (get_or l i e)
-map_at f [] i d e p = absurd (omega arith)
-map_at f (x ∷ l) zero d e p = refl
-map_at f (x ∷ l) (suc i) d e p = map_at f l i d e (omega arith)
-
 leg_held : (h : Shared) {n : ℕ} (leg : List Float) → length leg ≡ n → Held h leg n (leg_bands h leg)
 unfolding leg_bands
-leg_held h leg e = record { filled = λ i p d. map_at (band_of h) leg i d nan (omega arith) }
+leg_held h leg e = record { filled = λ i p d. get_or-map (band_of h) leg i nan d (omega arith) }
 
 -- band i of a leg that is grid point g's stretch of the slice
 leg_band : (h : Shared) {n i : ℕ} {leg : List Float} (g : ℕ) (fr : List Float) → leg ≡ part n g fr → length leg ≡ n → i < n

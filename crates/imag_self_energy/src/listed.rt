@@ -114,7 +114,6 @@ fn sum_of<F: Fn(usize) -> f64>(list: &[u16], term: F) -> f64
 }
 
 // The listed slots, with block c of the weights and block b of the strengths: the temperature is tested once for them all.
-#[tactic(auto, unfolding(crate::specs::Lists::place_term))]
 fn sum_listed(slots: &Slots<'_>, list: &[u16], factors: &[Factor], c: usize, b: usize) -> f64
     requires { Places (slots.now.bands * slots.now.bands) list.now (length list.now)
         × (slots.now.bands * slots.now.bands ≤ length factors.now)

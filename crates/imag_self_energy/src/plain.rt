@@ -23,7 +23,7 @@ fn contribution(h: Shared, p: Band, q: Band, x: f64, y: f64, v: f64) -> f64
 }
 
 // The totals of all positions.
-#[tactic(auto, using(crate::proofs::Laws::turn), unfolding(crate::specs::Bands::slot_step, crate::specs::Bands::add_slot, phonon::specs::Number::fold))]
+#[tactic(auto, unfolding(phonon::specs::Number::fold))]
 fn fill_plain(slots: &Slots<'_>, later: &Later<'_>, totals: &mut [f64])
     requires { (length totals.old ≡ slots.now.positions) × (length later.now.seconds.now ≡ slots.now.bands) }
     ensures { totals.new ≡ band_totals slots.now later.now.seconds.now later.now.thirds.now }

@@ -5,7 +5,7 @@ ghost use Rattle.real_to_normal.specs.Work.{places};
 use phonon::{Legs, Measures};
 
 // Where each leg's numbers begin, of `size` numbers a leg from `base` on.
-fn places(base: usize, size: usize) -> Legs<usize>
+pub fn places(base: usize, size: usize) -> Legs<usize>
     requires { base + 3 * size < 2 ^ 64 }
     ensures { result ≡ places base size }
 {

@@ -8,6 +8,7 @@ use native.Mathlib.Omega.{arith}
 use lib.Ieee.{Float}
 use Rattle.std.proofs.Common.{Option, Some, None, slice_get}
 use Rattle.std.proofs.lemmas.Bool.{lt-leb}
+use Rattle.std.proofs.lemmas.Option.{cond_some}
 use Rattle.phonon.specs.Sets.{TotalsSet, JoinedSet}
 use Rattle.phonon.specs.Doors.{StrengthsOutcome, TotalsOutcome, JoinedOutcome, totals_outcome, joined_outcome}
 use Rattle.integration_weights.specs.Sets.{WeightsSet}
@@ -16,16 +17,12 @@ use Rattle.wirambolo_c.specs.Foreign.{known, shape_known, Strengths, Totals, Joi
 
 -- ---- a choice
 
-given_by : {A : Type 0} (b : Bool) (v f : A) → ◌≡◌ {A = Option A} (cond b (Some v) None) (Some f) → (b ≡ true) × (f ≡ v)
-given_by true v f e = (refl, cc)
-given_by false v f e = absurd cc
-
 missing_by : {A : Type 0} (b : Bool) (v : A) → ◌≡◌ {A = Option A} (cond b (Some v) None) None → b ≡ false
 missing_by true v e = absurd cc
 missing_by false v e = refl
 
 pub given : {A : Type 0} (b : Bool) (v : A) {f : A} {o : Option A} → o ≡ cond b (Some v) None → o ≡ Some f → (b ≡ true) × (f ≡ v)
-given b v {f} e h = given_by b v f (sym e ∙ h)
+given b v {f} e h = let p = cond_some b v f (sym e ∙ h) in (p.0, sym p.1)
 
 pub missing : {A : Type 0} (b : Bool) (v : A) {o : Option A} → o ≡ cond b (Some v) None → o ≡ None → b ≡ false
 missing b v e h = missing_by b v (sym e ∙ h)
@@ -36,6 +33,12 @@ unfolding known
 of_two a b zero = refl
 of_two a b (suc zero) = refl
 of_two a b (suc (suc x)) = rw (lt-leb (suc (suc x)) 1 (omega arith)) refl
+
+pub given_two : {A : Type 0} (a b : A) (x : ℕ) {f : A} {o : Option A} → o ≡ slice_get (a ∷ b ∷ []) x → o ≡ Some f → (known x ≡ true) × (f ≡ cond (eqb x 0) a b)
+given_two a b x e h = given (known x) (cond (eqb x 0) a b) (e ∙ of_two a b x) h
+
+pub missing_two : {A : Type 0} (a b : A) (x : ℕ) {o : Option A} → o ≡ slice_get (a ∷ b ∷ []) x → o ≡ None → known x ≡ false
+missing_two a b x e h = missing (known x) (cond (eqb x 0) a b) (e ∙ of_two a b x) h
 
 pub of_three : {A : Type 0} (a b c : A) (x : ℕ) → slice_get (a ∷ b ∷ c ∷ []) x ≡ cond (shape_known x) (Some (cond (eqb x 0) a (cond (eqb x 1) b c))) None
 unfolding shape_known

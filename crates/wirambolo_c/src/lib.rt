@@ -67,7 +67,7 @@ fn choices_of(anchoring: u8, form: u8, symmetry: u8) -> Option<Choices>
 }
 
 // ---- the doors: C hands over each slice by itself, so that each door and its contract name where it belongs. Three doors make the same tables:
-// one function of all 22 parameters would be handed them by position, where here each stands beside its field's name.
+// one function of their 23 parameters would be handed them by position, where here each stands beside its field's name.
 
 // One triplet.
 #[unsafe(no_mangle)]
