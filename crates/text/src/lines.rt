@@ -36,6 +36,7 @@ fn put_total<const N: usize>(text: &mut ArrayVec<u8, N>, b: usize, x: f64)
     put_bits(text, x);
 }
 
+#[tactic(auto, using(crate::proofs::Laws::lines))]
 fn put_totals<const N: usize>(text: &mut ArrayVec<u8, N>, totals: &[f64])
     requires { array_vec_len text.old + length (totals_text totals.now) ≤ N }
     ensures { text.new.items ≡ text.old.items ++ totals_text totals.now }
