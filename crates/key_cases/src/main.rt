@@ -212,6 +212,7 @@ fn bath_of(c: &Case) -> Bath
     }
 }
 
+// No closures: a door is also what its expectation goes by, and a word of the line.
 #[derive(Clone, Copy)]
 enum Door {
     Triplet,
@@ -337,7 +338,7 @@ fn run_totals(
 }
 
 // Lends a door the part of each buffer that the case's F names, and returns its answer.
-// The three buffers are lent side by side: two fields of a struct behind a reference cannot be lent for writing at once.
+// The three buffers are lent side by side: parts of two fields of a struct behind a reference are not covered by the borrow check.
 fn run(
     door: Door,
     c: &Case,
