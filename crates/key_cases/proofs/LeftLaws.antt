@@ -1,10 +1,18 @@
 -- A door's outcome, with the rest of each buffer behind what the door was lent; and what a case says of the buffers.
-use Rattle.std.proofs.Common.{◌≡◌, ℕ, zero, suc, List, ◌++◌, sym, refl, ap, ◌∙◌}
+use Rattle.std.proofs.Common.{◌≡◌, ℕ, zero, suc, Bool, true, false, List, ◌++◌, length, replicate, Result, Ok, Err, sym, refl, ap, ◌∙◌, arith}
+use Rattle.std.specs.Result.{is_err}
+use Rattle.std.proofs.lemmas.List.{length-replicate}
+use Rattle.std.proofs.lemmas.Slice.{put_mid-paste}
+use borrow.Rule.Slice.PartMut.{post_of}
+use Rattle.phonon.specs.Number.{f0}
+use Rattle.phonon.specs.declared.Refusal.{Refusal}
+use Rattle.phonon.specs.Answers.{number_of}
+use Rattle.phonon.proofs.Answers.{number_positive}
 use lib.Ieee.{Float}
 use Rattle.phonon.specs.Doors.{StrengthsOutcome, TotalsOutcome, JoinedOutcome}
 use Rattle.key_cases.specs.declared.case.Case.{Case}
 use Rattle.key_cases.specs.declared.Door.{Door}
-use Rattle.key_cases.specs.Left.{Left, strengths_left, totals_left, joined_left, accepted_of, expected_with}
+use Rattle.key_cases.specs.Left.{Left, strengths_left, totals_left, joined_left, cleared_u, accepted_of, expected_with}
 
 pub strengths_left_lem : (o : StrengthsOutcome) {n : ℕ} {v w : List Float} (rest totals : List Float)
     → ◌≡◌ {A = StrengthsOutcome} (record { answer = n; strengths = v; work = w }) o
@@ -22,6 +30,20 @@ pub joined_left_lem : (o : JoinedOutcome) {n : ℕ} {v u w : List Float} (rest o
 joined_left_lem o rest others h = ap (λ (x : JoinedOutcome). joined_left x rest others) h
 
 -- ---- what the case says
+
+-- an answer by whether it is a refusal
+pub refused_is : (a : Result Unit Refusal) (b : Bool) → b ≡ is_err a → b ≡ true → number_of a ≡ 0 → ⊥
+refused_is (Ok x) b e t z = absurd cc
+refused_is (Err r) b e t z = let p = number_positive r in omega (arith, p, z)
+
+pub accepted_is : (a : Result Unit Refusal) (b : Bool) → b ≡ is_err a → b ≡ false → number_of a ≡ 0
+accepted_is (Ok x) b e f = refl
+accepted_is (Err r) b e f = absurd cc
+
+-- the work buffer, of which a part of 203 numbers was filled
+pub cleared_by : (work part new : List Float) → length part ≡ 203 → (((y : Float) → y ≡ f0 → y ≡ f0) → new ≡ replicate (length part) f0) → new ++ post_of 0 203 work ≡ cleared_u work
+cleared_by work part new l h =
+    put_mid-paste 0 203 work new (replicate 203 f0) 203 (h (λ y e. e) ∙ ap (λ (n : ℕ). replicate n f0) l) refl (sym (length-replicate 203 f0))
 
 module _ (m r : ℕ) (door : Door) (c : Case) (strengths totals work : List Float) (e : r ≡ m) where
   pub refused_left : (r ≡ 0 → ⊥) → ◌≡◌ {A = Left} (record { number = m; strengths = strengths; totals = totals; work = work }) (expected_with m door c strengths totals work)

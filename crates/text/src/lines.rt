@@ -8,7 +8,7 @@ use crate::Slots;
 use crate::number::{put, put_bits, put_number};
 use arrayvec::ArrayVec;
 
-#[tactic(auto, using(crate::proofs::Laws::parts), unfolding(crate::specs::Lines::refused_line))]
+#[tactic(auto, using(crate::proofs::Laws::parts, crate::proofs::Lengths::refused_length), unfolding(crate::specs::Lines::refused_line))]
 pub fn put_refused<const N: usize>(text: &mut ArrayVec<u8, N>, n: u8)
     requires { array_vec_len text.old + refused_room ≤ N }
     ensures { text.new.items ≡ text.old.items ++ refused_line n }
@@ -36,6 +36,7 @@ fn put_total<const N: usize>(text: &mut ArrayVec<u8, N>, b: usize, x: f64)
     put_bits(text, x);
 }
 
+#[tactic(auto, using(crate::proofs::Laws::lines))]
 fn put_totals<const N: usize>(text: &mut ArrayVec<u8, N>, totals: &[f64])
     requires { array_vec_len text.old + length (totals_text totals.now) ≤ N }
     ensures { text.new.items ≡ text.old.items ++ totals_text totals.now }

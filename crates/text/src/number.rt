@@ -20,6 +20,7 @@ pub(crate) fn put_number<const N: usize>(text: &mut ArrayVec<u8, N>, n: usize, t
     ensures { text.new.items ≡ text.old.items ++ number_then n then }
 {
     let mut digits = [0; 20];
+    // No From leads from usize to u64; the check proves that `as` loses nothing.
     let k = io::decimal(n as u64, &mut digits);
     put(text, &digits[..k]);
     text.push(then);

@@ -43,6 +43,7 @@ impl Slots<'_> {
     }
 
     // The slots of one first band and one third-leg band.
+    #[tactic(auto, using(crate::proofs::Laws::lines))]
     fn put_column<const N: usize>(&self, text: &mut ArrayVec<u8, N>, b: usize, k: usize)
         requires room { array_vec_len text.old + length (column_lines self.now.bands self.now.flags.now self.now.strengths.now b k) ≤ N }
         requires inside { (b < self.now.first) × (k < self.now.bands) }
@@ -54,6 +55,7 @@ impl Slots<'_> {
     }
 
     // The slots of one first band.
+    #[tactic(auto, using(crate::proofs::Laws::lines))]
     fn put_first_band<const N: usize>(&self, text: &mut ArrayVec<u8, N>, b: usize)
         requires room { array_vec_len text.old + length (first_band_lines self.now.bands self.now.flags.now self.now.strengths.now b) ≤ N }
         requires inside { b < self.now.first }
@@ -64,6 +66,7 @@ impl Slots<'_> {
         }
     }
 
+    #[tactic(auto, using(crate::proofs::Laws::lines))]
     pub(crate) fn put_all<const N: usize>(&self, text: &mut ArrayVec<u8, N>)
         requires { array_vec_len text.old + length (slots_text self.now.first self.now.bands self.now.flags.now self.now.strengths.now) ≤ N }
         ensures { text.new.items ≡ text.old.items ++ slots_text self.now.first self.now.bands self.now.flags.now self.now.strengths.now }

@@ -1,22 +1,15 @@
 -- The totals of each b in turn.
-use Rattle.std.proofs.Common.{◌≡◌, sym, append-nil, arith, length, rules}
+use Rattle.std.proofs.Common.{◌≡◌, arith, length, rules}
 use Rattle.phonon.specs.Number.{at}
-use Rattle.text.specs.Lines.{lines_below, total_line, totals_text}
-use Rattle.text.proofs.Laws.{lines_more, room_line}
+use Rattle.text.specs.Lines.{total_line, totals_text}
+use Rattle.text.proofs.Laws.{room_line}
 use Rattle.text.proofs.lines.put_totals.Goals as goal
-
-pub loop-b-init : goal.loop-b-init
-unfolding lines_below
-loop-b-init g c = sym (append-nil _)
 
 pub put_total-requires : goal.put_total-requires
 unfolding totals_text
 put_total-requires g c =
     let t = c.args.totals.now in
     (search rules, room_line (length t) (λ k. total_line k (at t k)) c.loop-b.b _ _ _ (omega arith) c.loop-b.invariant c.requires)
-
-pub loop-b-preserved : goal.loop-b-preserved
-loop-b-preserved g c = lines_more _ _ _ _ _ c.loop-b.invariant c.put_total.ensures
 
 pub returns : goal.returns
 unfolding totals_text

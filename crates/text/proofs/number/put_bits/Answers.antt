@@ -1,7 +1,7 @@
 -- The digits are those of the bits, and the line feed follows them.
 use Rattle.std.proofs.Common.{ℕ, List, rules, arith, ap, length, length-append}
 use Rattle.text.specs.Lines.{bits_line}
-use Rattle.text.proofs.Laws.{longer, put_same, put_then}
+use Rattle.text.proofs.Laws.{put_same, put_then}
 use Rattle.text.proofs.Numbers.{bits_digits}
 use Rattle.text.proofs.number.put_bits.Goals as goal
 

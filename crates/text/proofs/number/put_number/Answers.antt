@@ -1,7 +1,7 @@
 -- The digits are the number's, and the byte follows them.
 use Rattle.std.proofs.Common.{ℕ, List, rules, arith, ap, length, length-append}
 use Rattle.text.specs.Lines.{number_then}
-use Rattle.text.proofs.Laws.{longer, put_same, put_then}
+use Rattle.text.proofs.Laws.{put_same, put_then}
 use Rattle.text.proofs.Numbers.{decimal_digits}
 use Rattle.text.proofs.number.put_number.Goals as goal
 

@@ -1,21 +1,14 @@
 -- The slots of each j in turn.
-use Rattle.std.proofs.Common.{◌≡◌, sym, append-nil, arith, rules}
-use Rattle.text.specs.Lines.{lines_below, slot_lines, column_lines}
-use Rattle.text.proofs.Laws.{lines_more, room_line}
+use Rattle.std.proofs.Common.{◌≡◌, arith, rules}
+use Rattle.text.specs.Lines.{slot_lines, column_lines}
+use Rattle.text.proofs.Laws.{room_line}
 use Rattle.text.proofs.slots.Slots.put_column.Goals as goal
-
-pub loop-j-init : goal.loop-j-init
-unfolding lines_below
-loop-j-init g c = sym (append-nil _)
 
 pub put_one-requires : goal.put_one-requires
 unfolding column_lines
 put_one-requires g c =
     let s = c.args.self.now in
     (search rules, (room_line s.bands (λ x. slot_lines s.bands s.flags.now s.strengths.now c.args.b x c.args.k) c.loop-j.j _ _ _ (omega arith) c.loop-j.invariant c.requires.room, search rules))
-
-pub loop-j-preserved : goal.loop-j-preserved
-loop-j-preserved g c = lines_more _ _ _ _ _ c.loop-j.invariant c.put_one.ensures
 
 pub returns : goal.returns
 unfolding column_lines

@@ -1,21 +1,14 @@
 -- The columns of each k in turn.
-use Rattle.std.proofs.Common.{◌≡◌, sym, append-nil, arith, rules}
-use Rattle.text.specs.Lines.{lines_below, column_lines, first_band_lines}
-use Rattle.text.proofs.Laws.{lines_more, room_line}
+use Rattle.std.proofs.Common.{◌≡◌, arith, rules}
+use Rattle.text.specs.Lines.{column_lines, first_band_lines}
+use Rattle.text.proofs.Laws.{room_line}
 use Rattle.text.proofs.slots.Slots.put_first_band.Goals as goal
-
-pub loop-k-init : goal.loop-k-init
-unfolding lines_below
-loop-k-init g c = sym (append-nil _)
 
 pub put_column-requires : goal.put_column-requires
 unfolding first_band_lines
 put_column-requires g c =
     let s = c.args.self.now in
     (search rules, (room_line s.bands (λ x. column_lines s.bands s.flags.now s.strengths.now c.args.b x) c.loop-k.k _ _ _ (omega arith) c.loop-k.invariant c.requires.room, search rules))
-
-pub loop-k-preserved : goal.loop-k-preserved
-loop-k-preserved g c = lines_more _ _ _ _ _ c.loop-k.invariant c.put_column.ensures
 
 pub returns : goal.returns
 unfolding first_band_lines
