@@ -1,2 +1,3 @@
--- The layout of the work buffer, and what the slots are of it.
+-- The layout of the work buffer, and what the slots are of it; and what their strengths are worked from.
 pub mod Work
+pub mod Operands

@@ -9,7 +9,8 @@ ghost use Rattle.real_to_reciprocal.specs.Shape.{Ranged};
 ghost use Rattle.real_to_normal.specs.Work.{columns_at, legs_end, places, Eigenvectors, Prepared};
 
 use crate::layout::Layout;
-use phonon::{Legs, Tables};
+use crate::points::Points;
+use phonon::Legs;
 use real_to_reciprocal::phases::phase_factors;
 use reciprocal_to_normal::scale::{inverse_roots, scale_eigenvectors};
 
@@ -31,25 +32,24 @@ fn scale_legs(w: &mut [f64], at: Legs<usize>, eigenvectors: &[f64], np: usize, g
 }
 
 // All that the legs give: inverse roots, scaled eigenvectors, phase factors.
-pub fn prepare(w: &mut [f64], tables: &Tables<'_>, q: &Legs<[f64; 3]>, g: Legs<usize>)
-    requires sizes { (tables.now.measures.atoms ≤ 1000)
-        × (tables.now.measures.supercell ≤ 1000)
-        × (legs_end tables.now.measures ≤ length w.old)
-        × (tables.now.measures.atoms ≤ length tables.now.crystal.masses.now)
-        × Ranged tables.now.crystal.vectors.now tables.now.crystal.multiplicity.now
-        (tables.now.measures.supercell * tables.now.measures.atoms) }
-    requires points { Eigenvectors (3 * tables.now.measures.atoms) tables.now.phonons.eigenvectors.now g }
-    ensures { Prepared w.new (tables_of tables.now) g q.now
-        × SameOutside w.old w.new 0 (legs_end tables.now.measures) }
+pub fn prepare(w: &mut [f64], p: &Points<'_>)
+    requires { (p.now.tables.now.measures.atoms ≤ 1000)
+        × (p.now.tables.now.measures.supercell ≤ 1000)
+        × (legs_end p.now.tables.now.measures ≤ length w.old)
+        × Ranged p.now.tables.now.crystal.vectors.now p.now.tables.now.crystal.multiplicity.now
+        (p.now.tables.now.measures.supercell * p.now.tables.now.measures.atoms) }
+    ensures { Prepared w.new (tables_of p.now.tables.now) p.now.g p.now.q
+        × SameOutside w.old w.new 0 (legs_end p.now.tables.now.measures) }
 {
+    let tables = p.tables;
     let np = tables.measures.atoms;
     let at = Layout::of(tables.measures);
     inverse_roots(w, 0, tables.crystal.masses, np);
-    scale_legs(w, at.columns, tables.phonons.eigenvectors, np, g);
+    scale_legs(w, at.columns, tables.phonons.eigenvectors, np, p.g);
     phase_factors(
         w,
         at.factors.leg0,
-        q,
+        &p.q,
         &tables.crystal,
         np,
         tables.measures.supercell,

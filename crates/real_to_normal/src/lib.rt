@@ -5,5 +5,6 @@ pub mod layout;
 pub mod legs;
 pub mod order;
 pub mod plain;
+pub mod points;
 pub mod symmetrized;
 pub mod triplet;

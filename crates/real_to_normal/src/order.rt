@@ -5,14 +5,17 @@ ghost use Rattle.phonon.specs.Sets.{part};
 ghost use Rattle.phonon.specs.Interaction.{picked};
 ghost use Rattle.planes.specs.Region.{SameOutside};
 ghost use Rattle.planes.specs.Layout.{constants_in};
+ghost use Rattle.real_to_normal.specs.Operands.{OperandsOf};
 ghost use Rattle.real_to_normal.specs.Work.{pre_at, constants_at, scratch_at, Shapes, Frequencies, Order, Factored, reciprocal_of};
 
 use crate::layout::Layout;
-use phonon::{Legs, Tables};
+use crate::points::Points;
+use phonon::Legs;
 use planes::part_of;
 use real_to_reciprocal::blocks::FactorPlaces;
 use real_to_reciprocal::phases::pre_phase_factors;
 use real_to_reciprocal::real_to_reciprocal;
+use reciprocal_to_normal::operands::Operands;
 
 // The frequencies of nb bands at each leg's grid point: the caller's own stretches, uncopied.
 pub fn frequencies_of(frequencies: &[f64], g: Legs<usize>, nb: usize) -> Legs<&[f64]>
@@ -29,20 +32,21 @@ pub fn frequencies_of(frequencies: &[f64], g: Legs<usize>, nb: usize) -> Legs<&[
 }
 
 // The force constants in reciprocal space, with the legs in this order.
-pub fn order_constants(w: &mut [f64], tables: &Tables<'_>, q: &Legs<[f64; 3]>, order: [usize; 3])
-    requires sizes { Shapes (tables_of tables.now)
+pub fn order_constants(w: &mut [f64], p: &Points<'_>, order: [usize; 3])
+    requires sizes { Shapes (tables_of p.now.tables.now)
         × Order order
-        × (scratch_at tables.now.measures.atoms tables.now.measures.supercell ≤ length w.old) }
-    requires factors { Factored w.old (tables_of tables.now) q.now }
-    ensures { (constants_in w.new (constants_at tables.now.measures.atoms tables.now.measures.supercell) tables.now.measures.atoms
-        ≡ reciprocal_of (tables_of tables.now) (picked q.now (get_or order 0 0) (get_or order 1 0) (get_or order 2 0)))
-        × SameOutside w.old w.new (pre_at tables.now.measures.atoms tables.now.measures.supercell)
-        (scratch_at tables.now.measures.atoms tables.now.measures.supercell) }
+        × (scratch_at p.now.tables.now.measures.atoms p.now.tables.now.measures.supercell ≤ length w.old) }
+    requires factors { Factored w.old (tables_of p.now.tables.now) p.now.q }
+    ensures { (constants_in w.new (constants_at p.now.tables.now.measures.atoms p.now.tables.now.measures.supercell) p.now.tables.now.measures.atoms
+        ≡ reciprocal_of (tables_of p.now.tables.now) (picked p.now.q (get_or order 0 0) (get_or order 1 0) (get_or order 2 0)))
+        × SameOutside w.old w.new (pre_at p.now.tables.now.measures.atoms p.now.tables.now.measures.supercell)
+        (scratch_at p.now.tables.now.measures.atoms p.now.tables.now.measures.supercell) }
 {
+    let tables = p.tables;
     let np = tables.measures.atoms;
     let at = Layout::of(tables.measures);
-    let p = q.picked(order);
-    pre_phase_factors(w, at.pre, &p, &tables.crystal, np);
+    let q = p.q.picked(order);
+    pre_phase_factors(w, at.pre, &q, &tables.crystal, np);
     let f = FactorPlaces {
         pre: at.pre,
         legs: at.factors.picked(order),
@@ -56,4 +60,23 @@ pub fn order_constants(w: &mut [f64], tables: &Tables<'_>, q: &Legs<[f64; 3]>, o
         np,
         tables.measures.supercell,
     );
+}
+
+// What the strengths are worked from, with the legs in this order.
+pub fn operands_of<'a>(p: &Points<'a>, order: [usize; 3]) -> Operands<'a>
+    requires { Shapes (tables_of p.now.tables.now) × Order order }
+    ensures { OperandsOf (tables_of p.now.tables.now) (picked p.now.g (get_or order 0 0) (get_or order 1 0) (get_or order 2 0))
+        (get_or order 0 0) (get_or order 1 0) (get_or order 2 0) result }
+{
+    let tables = p.tables;
+    let np = tables.measures.atoms;
+    let at = Layout::of(tables.measures);
+    Operands {
+        atoms: np,
+        constants: at.constants,
+        legs: at.columns.picked(order),
+        scratch: at.scratch,
+        freqs: frequencies_of(tables.phonons.frequencies, p.g.picked(order), 3 * np),
+        cutoff: tables.settings.cutoff,
+    }
 }

@@ -8,44 +8,34 @@ ghost use Rattle.phonon.specs.Refusal.{triplet_refusal};
 ghost use Rattle.phonon.specs.Doors.{cleared};
 ghost use Rattle.planes.specs.Region.{SameOutside};
 ghost use Rattle.real_to_reciprocal.specs.Shape.{Ranged};
-ghost use Rattle.real_to_normal.specs.Work.{work_end, slot_count, Shapes, Frequencies, Eigenvectors, Slots, reciprocal_of, slot_phonons, slot_value};
+ghost use Rattle.real_to_normal.specs.Work.{work_end, slot_count, Shapes, Slots, reciprocal_of, slot_phonons, slot_value};
 
 use crate::legs::prepare;
 use crate::plain::real_to_normal;
+use crate::points::Points;
 use crate::symmetrized::real_to_normal_sym_q;
 use phonon::{Legs, Symmetry, Tables};
 use planes::{index_of, work_length};
 use real_to_reciprocal::phases::compute_q_vec;
 
-// The slots of one triplet, whose legs' grid points are g and whose q are q.
-fn slots_of(
-    strengths: &mut [f64],
-    flags: &[u8],
-    work: &mut [f64],
-    tables: &Tables<'_>,
-    q: &Legs<[f64; 3]>,
-    g: Legs<usize>,
-)
-    requires sizes { (1 ≤ tables.now.measures.atoms)
-        × Shapes (tables_of tables.now)
-        × (work_end tables.now.measures ≤ length work.old)
-        × (tables.now.measures.atoms ≤ length tables.now.crystal.masses.now)
-        × Ranged tables.now.crystal.vectors.now tables.now.crystal.multiplicity.now
-        (tables.now.measures.supercell * tables.now.measures.atoms) }
-    requires points { Frequencies (3 * tables.now.measures.atoms) tables.now.phonons.frequencies.now g
-        × Eigenvectors (3 * tables.now.measures.atoms) tables.now.phonons.eigenvectors.now g }
-    requires slots { Slots (tables_of tables.now) flags.now strengths.old }
-    ensures { (strengths.new ≡ table (slot_count (tables_of tables.now))
-        (λ m. slot_value tables.now.symmetry (reciprocal_of (tables_of tables.now)) tables.now.measures.atoms q.now
-        (slot_phonons tables.now.measures.atoms (inverse_roots tables.now.measures.atoms tables.now.crystal.masses.now)
-        (phonons_of tables.now.phonons) g tables.now.bands.now m)
-        tables.now.settings.cutoff flags.now (at strengths.old m) m))
-        × SameOutside work.old work.new 0 (work_end tables.now.measures) }
+// The slots of one triplet.
+fn slots_of(strengths: &mut [f64], flags: &[u8], work: &mut [f64], p: &Points<'_>)
+    requires sizes { Shapes (tables_of p.now.tables.now)
+        × (work_end p.now.tables.now.measures ≤ length work.old)
+        × Ranged p.now.tables.now.crystal.vectors.now p.now.tables.now.crystal.multiplicity.now
+        (p.now.tables.now.measures.supercell * p.now.tables.now.measures.atoms) }
+    requires slots { Slots (tables_of p.now.tables.now) flags.now strengths.old }
+    ensures { (strengths.new ≡ table (slot_count (tables_of p.now.tables.now))
+        (λ m. slot_value p.now.tables.now.symmetry (reciprocal_of (tables_of p.now.tables.now)) p.now.tables.now.measures.atoms p.now.q
+        (slot_phonons p.now.tables.now.measures.atoms (inverse_roots p.now.tables.now.measures.atoms p.now.tables.now.crystal.masses.now)
+        (phonons_of p.now.tables.now.phonons) p.now.g p.now.tables.now.bands.now m)
+        p.now.tables.now.settings.cutoff flags.now (at strengths.old m) m))
+        × SameOutside work.old work.new 0 (work_end p.now.tables.now.measures) }
 {
-    prepare(work, tables, q, g);
-    match tables.symmetry {
-        Symmetry::Off => real_to_normal(strengths, flags, work, tables, q, g),
-        Symmetry::Symmetrized => real_to_normal_sym_q(strengths, flags, work, tables, q, g),
+    prepare(work, p);
+    match p.tables.symmetry {
+        Symmetry::Off => real_to_normal(strengths, flags, work, p),
+        Symmetry::Symmetrized => real_to_normal_sym_q(strengths, flags, work, p),
     }
 }
 
@@ -82,6 +72,6 @@ pub fn work_triplet(
         leg1: compute_q_vec(&tables.grid, g.leg1),
         leg2: compute_q_vec(&tables.grid, g.leg2),
     };
-    slots_of(strengths, flags, work, tables, &q, g);
+    slots_of(strengths, flags, work, &Points { tables, g, q });
     work[..n].fill(0.0);
 }

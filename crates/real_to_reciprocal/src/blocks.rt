@@ -88,7 +88,13 @@ fn store_plane(w: &mut [f64], fo: usize, np: usize, atoms: Legs<usize>, l: usize
     let al = 3 * atoms.leg0 + l;
     for n in 0..3 {
         let cn = 3 * atoms.leg2 + n;
-        store_run(w, fo + 2 * (al * d) + (cn * b + 3 * atoms.leg1), d, t, 9 * l + n);
+        store_run(
+            w,
+            fo + 2 * (al * d) + (cn * b + 3 * atoms.leg1),
+            d,
+            t,
+            9 * l + n,
+        );
     }
 }
 
@@ -169,8 +175,22 @@ fn r0_average_block(
     let one = [1, 0, 2];
     let two = [2, 1, 0];
     leg_block(t, w, f, cell, Leg::First, atoms);
-    leg_block(&mut second, w, f.picked(one), cell, Leg::Second, atoms.picked(one));
-    leg_block(&mut third, w, f.picked(two), cell, Leg::Third, atoms.picked(two));
+    leg_block(
+        &mut second,
+        w,
+        f.picked(one),
+        cell,
+        Leg::Second,
+        atoms.picked(one),
+    );
+    leg_block(
+        &mut third,
+        w,
+        f.picked(two),
+        cell,
+        Leg::Third,
+        atoms.picked(two),
+    );
     average(t, &second, &third);
 }
 

@@ -16,13 +16,13 @@ loop-o-init c =
     let a = c.args in
     let p = c.requires in (
       omega arith,
-      c.fill.ensures.after (λ y e. e) ∙ six_none (tables_of a.tables.now) a.q.now a.w.now a.g a.flags.now p.sizes.0 p.slots.bands p.slots.strengths,
+      c.fill.ensures.after (λ y e. e) ∙ six_none (tables_of a.p.now.tables.now) a.p.now.q a.w.now a.p.now.g a.flags.now a.p.now.some p.slots.bands p.slots.strengths,
       outside_none _ _ _,
     )
 
 pub add_order-requires-clause-factors : goal.add_order-requires-clause-factors
 add_order-requires-clause-factors c =
-    let m = c.args.tables.now.measures in
+    let m = c.args.p.now.tables.now.measures in
     record { factors = λ x h. numbers_below c.loop-o.invariant.2 _ _ _ (omega (arith, row_le (2 * (m.atoms * m.supercell)) h)) ∙ c.requires.factors.factors x h }
 
 pub add_order-requires-clause-legs : goal.add_order-requires-clause-legs
@@ -44,6 +44,6 @@ loop-o-preserved c =
     let less : loop.o < 6 = omega (arith, c.loop-o-test.true) in
     let r = c.add_order.ensures in (
       omega arith,
-      six_turn (tables_of a.tables.now) a.q.now a.w.now a.g a.flags.now p.sizes.0 p.slots.bands loop.o less loop.invariant.2 c.order_at.ensures loop.invariant.1 r.0,
+      six_turn (tables_of a.p.now.tables.now) a.p.now.q a.w.now a.p.now.g a.flags.now a.p.now.some p.slots.bands loop.o less loop.invariant.2 c.order_at.ensures loop.invariant.1 r.0,
       outside_then loop.invariant.2 r.1,
     )

@@ -11,5 +11,5 @@ use Rattle.real_to_normal.proofs.symmetrized.real_to_normal_sym_q.Given as goal
 abbrev pub invariant-loop-o : goal.invariant-loop-o
 invariant-loop-o l =
     (l.o ≤ 6)
-    × (l.out ≡ table (slot_count (tables_of l.tables)) (λ m. cond (flagged l.flags m) f0 (fold l.o f0 (sixth_of (tables_of l.tables) l.q l.initial.w l.g m))))
-    × SameOutside l.initial.w l.w (legs_end l.tables.measures) (work_end l.tables.measures)
+    × (l.out ≡ table (slot_count (tables_of l.p.tables.now)) (λ m. cond (flagged l.flags m) f0 (fold l.o f0 (sixth_of (tables_of l.p.tables.now) l.p.q l.initial.w l.p.g m))))
+    × SameOutside l.initial.w l.w (legs_end l.p.tables.now.measures) (work_end l.p.tables.now.measures)
