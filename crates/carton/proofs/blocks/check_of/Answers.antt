@@ -21,7 +21,7 @@ four_less s i h = omega (arith, h i, h (i + 1), h (i + 2), h (i + 3))
 
 pub sum-sum-requires-clause-fits : goal.sum-sum-requires-clause-fits
 sum-sum-requires-clause-fits c =
-    fits_from_length _ _ 127 _ (at_most_from_yields_List (YieldsList-from_range 0 127 127 c.map.ensures.source (omega arith)) (omega arith)) c.map.ensures.closure (omega arith) (λ x r q k.
+    fits_from_length _ _ 127 _ (at_most_from_yields_List (YieldsList-from_range _ _ _ c.map.ensures.source refl) (omega arith)) c.map.ensures.closure (omega arith) (λ x r q k.
     let e : r ≡ four_at c.args.s.now (c.args.i + 4 * x) = search rules in
     (search rules, omega (arith, e, four_less c.args.s.now (c.args.i + 4 * x) (λ n. (c.type_inv.s n).fits))))
 
