@@ -14,10 +14,18 @@ use Rattle.phonon.specs.Sets.{slots}
 use Rattle.carton.specs.declared.heading.Heading.{Heading}
 use Rattle.carton.specs.Fitted.{Fitted}
 use Rattle.carton.specs.Most.{most_words}
+use Rattle.carton.specs.Heading.{slice}
+use borrow.Rule.Slice.PartMut.{mid_len}
 use Rattle.answer.specs.Text.{zeros}
 
 pub fitted_same : (h : Heading) (n m : ℕ) → m ≡ n → Fitted h n → Fitted h m
 fitted_same h n m e f = rw e f
+
+-- nothing cites this now; docs/PORT.md names it
+pub flags_long : (h : Heading) (n : ℕ) (l : List ℕ) → Fitted h n → length l ≡ n → slots h.measures ≤ length (slice h.places.flags h.places.constants l)
+flags_long h n l f e =
+    let t = f.tables.flags in
+    omega (arith, mid_len h.places.flags h.places.constants l (omega (arith, t.inside)), f.flags, t.order)
 
 -- ---- a prefix that was lent and has come back as a table
 

@@ -9,6 +9,10 @@ use Rattle.planes.proofs.RegionLaws.{outside_then, outside_wider}
 use Rattle.planes.proofs.Products.{row_le}
 use Rattle.real_to_normal.specs.Work.{columns_at, factors_at, pre_at, constants_at, scratch_at, listing_at, end_at}
 
+-- nothing cites this and pre_fits now; docs/PORT.md names them
+pub few : {P : ℕ} → P ≤ 256 → P ≤ 1000
+few h = omega arith
+
 module _ (P S : ℕ) where
   -- a leg's columns and factors
   pub columns_end : {x e : ℕ} → x < 3 → e ≡ columns_at P x → e + 2 * (3 * P * (3 * P)) ≤ scratch_at P S
@@ -19,6 +23,9 @@ module _ (P S : ℕ) where
 
   pub columns_pre : columns_at P 3 ≤ pre_at P S
   columns_pre = omega arith
+
+  pub pre_fits : {n : ℕ} → scratch_at P S ≤ n → pre_at P S + 2 * P ≤ n
+  pre_fits h = omega arith
 
   -- the legs, and then what lies behind them
   pub outside_legs : {l l₁ l₂ : List Float} → SameOutside l l₁ 0 (pre_at P S) → SameOutside l₁ l₂ (pre_at P S) (end_at P S) → SameOutside l l₂ 0 (end_at P S)
