@@ -135,11 +135,11 @@ impl FactorPlaces {
 // Writes to t the sums of one leg for three atoms, times the pre-factor of the first. Laid into its callers, so that each
 // leg has its own loop. To a lent t: handed back by value, the sums of a pair took 1.2 times as long.
 #[inline(always)]
-fn leg_block(
+fn leg_block<const N: usize>(
     t: &mut [f64; 54],
     w: &[f64],
     f: FactorPlaces,
-    cell: &Supercell<'_>,
+    cell: &Supercell<'_, N>,
     leg: Leg,
     atoms: Legs<usize>,
 )
@@ -157,11 +157,11 @@ fn leg_block(
 }
 
 // Writes the block of three atoms to t, anchored at each in turn and averaged: the second and the third leg take the first's place.
-fn r0_average_block(
+fn r0_average_block<const N: usize>(
     t: &mut [f64; 54],
     w: &[f64],
     f: FactorPlaces,
-    cell: &Supercell<'_>,
+    cell: &Supercell<'_, N>,
     atoms: Legs<usize>,
 )
     requires { FactorsBelow (length w.now) f cell.now.np cell.now.ns × AtomsBelow cell.now.np atoms }
@@ -195,11 +195,11 @@ fn r0_average_block(
 }
 
 // Writes the block of three atoms to t. Anchored plainly, it is the sums of a leg alone.
-pub fn block(
+pub fn block<const N: usize>(
     t: &mut [f64; 54],
     w: &[f64],
     f: FactorPlaces,
-    cell: &Supercell<'_>,
+    cell: &Supercell<'_, N>,
     anchoring: Anchoring,
     atoms: Legs<usize>,
 )

@@ -184,11 +184,11 @@ fn add_pair(
 // The 27 sums for three atoms, real parts first. Phase factors are np * ns numbers in planes of w: those of the second
 // atom's leg from f1 on, those of the third's from f2 on.
 #[inline(always)]
-pub fn real_to_reciprocal_elements(
+pub fn real_to_reciprocal_elements<const N: usize>(
     w: &[f64],
     f1: usize,
     f2: usize,
-    cell: &Supercell<'_>,
+    cell: &Supercell<'_, N>,
     leg: Leg,
     atoms: Legs<usize>,
 ) -> [f64; 54]

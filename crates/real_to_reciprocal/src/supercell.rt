@@ -1,5 +1,5 @@
 // The force constants, with the copies of each atom in the supercell.
-ghost use Rattle.std.specs.Prelude.{◌≡◌, ◌+◌, ◌<◌, ◌≤◌, length, get_or, MatchOption};
+ghost use Rattle.std.specs.Prelude.{◌≡◌, ◌+◌, ◌*◌, ◌^◌, ◌<◌, ◌≤◌, length, MatchOption};
 ghost use Rattle.phonon.specs.Number.{index, int};
 ghost use Rattle.phonon.specs.Handed.{forces_of};
 ghost use Rattle.real_to_reciprocal.specs.Shape.{Shaped};
@@ -18,14 +18,13 @@ fn next_copy(s2p: &[i64], y: usize, from: usize) -> Option<usize>
 }
 
 // ---- tables of copies, in which the number of supercell atoms stands for none: an Option there would take twice the room. They are
-// written where they lie: handed back by value they are copied twice, and all that follows took up to 1.1 times as long.
+// written where they lie: handed back by value they are copied twice, and all that follows took up to 1.1 times as long. By places, as the copies are numbered.
 
 // The first copy of each atom.
 pub fn first_copies(first: &mut [u16], p2s: &[i64], s2p: &[i64])
     requires { (length p2s.now ≤ length first.old) × (length s2p.now < 65536) }
     ensures { FirstCopies (length p2s.now) (length s2p.now) p2s.now s2p.now first.new }
 {
-    // By places: a table may be longer than what is filled of it.
     for a in 0..p2s.len() {
         let copy = next_copy(s2p, index_at(p2s, a), 0);
         first[a] = copy.unwrap_or(s2p.len()) as u16;
@@ -43,36 +42,37 @@ pub fn later_copies(later: &mut [u16], s2p: &[i64])
     }
 }
 
-// Entry n of a table of copies among ns supercell atoms.
-fn copy_in(table: &[u16; 256], n: usize, ns: usize) -> Option<usize>
-    requires { n < length table.now }
-    ensures { MatchOption result (ns ≤ get_or table.now n 0) (λ k. (k ≡ get_or table.now n 0) × (k < ns)) }
+// An entry of a table of copies among ns supercell atoms.
+fn copy_of(entry: u16, ns: usize) -> Option<usize>
+    ensures { MatchOption result (ns ≤ entry) (λ k. (k ≡ entry) × (k < ns)) }
 {
-    let k = usize::from(table[n]);
+    let k = usize::from(entry);
     if k < ns { Some(k) } else { None }
 }
 
 // The force constants of np atoms and ns supercell atoms, with the first copy of each atom, and after each supercell atom the
-// next copy of the same atom. The tables are lent, as arrays: as slices the sums of a pair took 1.3 times as long.
+// next copy of the same atom. The tables are lent, as arrays: as slices the sums of a pair took 1.3 times as long. Of an array's length `long`
+// says no more than that it has a place for each, and that it is an array.
 #[derive(Clone, Copy)]
-pub struct Supercell<'a> {
+pub struct Supercell<'a, const N: usize> {
     pub forces: Forces<'a>,
     pub np: usize,
     pub ns: usize,
-    pub first: &'a [u16; 256],
-    pub later: &'a [u16; 256],
+    pub first: &'a [u16; N],
+    pub later: &'a [u16; N],
+    ghost long: { (np ≤ N) × (ns ≤ N) × (N * 2 < 2 ^ 63) },
     ghost shaped: { Shaped np ns (forces_of forces) },
     ghost first_are: { FirstCopies np ns forces.p2s.now forces.s2p.now first.now },
     ghost later_are: { LaterCopies ns forces.s2p.now later.now },
 }
 
-impl Supercell<'_> {
+impl<const N: usize> Supercell<'_, N> {
     // The first copy of atom a.
     pub fn first_copy(&self, a: usize) -> Option<usize>
         requires { a < self.now.np }
         ensures { NextCopy self.now.forces.s2p.now self.now.ns (index (int self.now.forces.p2s.now a)) 0 result }
     {
-        copy_in(self.first, a, self.ns)
+        copy_of(self.first[a], self.ns)
     }
 
     // The next copy, after supercell atom k, of the same atom.
@@ -80,6 +80,6 @@ impl Supercell<'_> {
         requires { k < self.now.ns }
         ensures { NextCopy self.now.forces.s2p.now self.now.ns (index (int self.now.forces.s2p.now k)) (k + 1) result }
     {
-        copy_in(self.later, k, self.ns)
+        copy_of(self.later[k], self.ns)
     }
 }

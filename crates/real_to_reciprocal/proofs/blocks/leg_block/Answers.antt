@@ -5,4 +5,4 @@ use Rattle.real_to_reciprocal.proofs.BlockLaws.{product_of}
 use Rattle.real_to_reciprocal.proofs.blocks.leg_block.Goals as goal
 
 pub returns : goal.returns
-returns c = product_of c.real_to_reciprocal_elements.ensures (c.change_each.ensures (λ e s. cmul s c.get_split-z.result) (λ e z r l p. search rules)) c.get_split-z.ensures
+returns g c = product_of c.real_to_reciprocal_elements.ensures (c.change_each.ensures (λ e s. cmul s c.get_split-z.result) (λ e z r l p. search rules)) c.get_split-z.ensures

@@ -9,17 +9,17 @@ use Rattle.real_to_reciprocal.proofs.ElementLaws.{k_start, k_turn, j_start, j_tu
 use Rattle.real_to_reciprocal.proofs.elements.real_to_reciprocal_elements.Goals as goal
 
 pub loop-second-init : goal.loop-second-init
-loop-second-init c =
+loop-second-init g c =
     let n = c.first_copy-second.ensures in
     (next_at _ _ _ _ _ n, j_start _ _ _ _ _ _ _ _ _ _ _ _ (next_first _ _ _ _ _ n))
 
 pub loop-third-init : goal.loop-third-init
-loop-third-init c =
+loop-third-init g c =
     let n = c.first_copy-third.ensures in
     (next_at _ _ _ _ _ n, k_start _ _ _ _ _ _ _ _ _ _ _ _ c.in-Some.j (rw c.in-Some.is at c.loop-second.invariant.1) (next_first _ _ _ _ _ n))
 
 pub add_pair-held-requires : goal.add_pair-held-requires
-add_pair-held-requires c =
+add_pair-held-requires g c =
     let jt = (rw c.in-Some.is at c.loop-second.invariant.0).0 in
     let kt = (rw c.in-Some-third.is at c.loop-third.invariant.0).0 in
     let e = pair_in c.args.cell.now.shaped c.row_of.ensures c.requires.2.first jt kt in (
@@ -33,7 +33,7 @@ add_pair-held-requires c =
     )
 
 pub loop-third-preserved : goal.loop-third-preserved
-loop-third-preserved c =
+loop-third-preserved g c =
     let k = c.in-Some-third.k in
     let e = (rw c.in-Some-third.is at c.loop-third.invariant.0).1 in
     let s = rw c.in-Some-third.is at c.loop-third.invariant.1 in
@@ -41,12 +41,12 @@ loop-third-preserved c =
     (rw e at (next_at _ _ _ _ _ n), k_turn _ _ _ _ _ _ _ _ _ _ _ _ c.in-Some.j k s c.add_pair-held.ensures e (next_first _ _ _ _ _ n))
 
 pub loop-second-preserved : goal.loop-second-preserved
-loop-second-preserved c =
+loop-second-preserved g c =
     let j = c.in-Some.j in
     let e = (rw c.in-Some.is at c.loop-second.invariant.0).1 in
     let n = c.copy_after-second.ensures in
     (rw e at (next_at _ _ _ _ _ n), j_turn _ _ _ _ _ _ _ _ _ _ _ _ j (rw c.in_default-third.is at c.loop-third.invariant.1) e (next_first _ _ _ _ _ n))
 
 pub returns : goal.returns
-returns c =
+returns g c =
     cols_ext (settled_cols (rw c.in_default.is at c.loop-second.invariant.1) c.add_held.ensures) (λ e l. element_by _ _ _ _ _ _ _ _ e _ c.row_of.ensures)
