@@ -11,7 +11,8 @@ use common::cmplx_mul;
 use phonon::Complex;
 use planes::get_split;
 
-// The sums of N columns: their real parts, and their imaginary parts.
+// The sums of N columns: their real parts, and their imaginary parts. Two arrays, as planes are: an array of complex numbers would
+// be stored number by number.
 #[derive(Clone, Copy)]
 pub struct Sums<const N: usize> {
     pub re: [f64; N],
@@ -43,7 +44,7 @@ impl<const N: usize> Sums<N> {
         }
     }
 
-    // Both sums of each column, added.
+    // Both sums of each column, added. By columns: three pairs of arrays zipped read no plainer.
     #[inline(always)]
     fn plus(&self, other: &Sums<N>) -> Sums<N>
         ensures { Summed result (λ c. cadd (sum_at self.now c) (sum_at other.now c)) }

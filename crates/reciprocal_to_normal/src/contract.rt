@@ -1,4 +1,5 @@
-// contract_fc3_e0: the force constants contracted with one band of leg 0, whole planes at a time.
+// contract_fc3_e0: the force constants contracted with one band of leg 0, whole planes at a time. Planes by off and d, which is their
+// distance and the count of their numbers too, so that a struct of the two would be no shorter.
 ghost use Rattle.std.specs.Prelude.{◌+◌, ◌*◌, ◌<◌, ◌≤◌, length};
 ghost use Rattle.phonon.specs.Common.{czero, cadd, cmul};
 ghost use Rattle.phonon.specs.ReciprocalToNormal.{add_unless_zero};

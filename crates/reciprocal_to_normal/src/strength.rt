@@ -4,7 +4,7 @@ ghost use Rattle.phonon.specs.ReciprocalToNormal.{strength_from};
 
 use phonon::Complex;
 
-// The strength of amplitude a and the frequencies x, y, z of the three legs.
+// The strength of amplitude a and the frequencies x, y, z of the three legs, one by one as the definition has them.
 pub fn strength_of(cutoff: f64, a: Complex, x: f64, y: f64, z: f64) -> f64
     ensures { result ≡ strength_from cutoff a x y z }
 {
