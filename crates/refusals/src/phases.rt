@@ -4,7 +4,7 @@ ghost use Rattle.phonon.specs.Handed.{grid_of, tables_of};
 ghost use Rattle.phonon.specs.Sets.{part};
 ghost use Rattle.phonon.specs.Tests.{every_below};
 ghost use Rattle.phonon.specs.Trig.{in_domain};
-ghost use Rattle.phonon.specs.Interaction.{order_count, exchanged, legs_at};
+ghost use Rattle.phonon.specs.Interaction.{order_count, legs_at};
 ghost use Rattle.phonon.specs.RealToReciprocal.{pre_phase, anchor_vector};
 ghost use Rattle.phonon.specs.Refusal.{leg_phases_ok, pre_phases_ok, orders_ok};
 ghost use Rattle.real_to_reciprocal.specs.Shape.{Anchored, Ranged};
@@ -75,27 +75,13 @@ fn order_count(symmetry: Symmetry) -> usize
     }
 }
 
-// The three q in order o.
-#[tactic(auto, unfolding(phonon::specs::Interaction::exchanged))]
-fn exchanged(q: &Legs<[f64; 3]>, o: usize) -> Legs<[f64; 3]>
-    requires { o < 6 }
-    ensures { result ≡ exchanged o q.now }
-{
-    let order = order_at(o);
-    Legs {
-        leg0: q.leg(order[0]),
-        leg1: q.leg(order[1]),
-        leg2: q.leg(order[2]),
-    }
-}
-
 // Each order of the legs that is used.
 fn orders_ok(q: &Legs<[f64; 3]>, symmetry: Symmetry, crystal: &Crystal<'_>, atoms: usize) -> bool
     requires { Anchored crystal.now.vectors.now crystal.now.multiplicity.now crystal.now.forces.p2s.now atoms }
     ensures { result ≡ orders_ok atoms symmetry crystal.now.vectors.now crystal.now.multiplicity.now
         crystal.now.forces.p2s.now q.now }
 {
-    (0..order_count(symmetry)).all(|o| pre_phases_ok(&exchanged(q, o), crystal, atoms))
+    (0..order_count(symmetry)).all(|o| pre_phases_ok(&q.picked(order_at(o)), crystal, atoms))
 }
 
 // The q of a triplet's three points.
