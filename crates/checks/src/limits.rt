@@ -1,4 +1,4 @@
-// Document 01's limits, as phonon's Limits states them.
+// Document 01's limits, as phonon's Limits states them. That of the phases is the domain of funcs::in_domain.
 pub const MOST_ATOMS: usize = 8;
 
 pub const MOST_SUPERCELL: usize = 64;
@@ -25,7 +25,3 @@ pub const HIGHEST_MATRIX: i64 = 4096;
 pub const LOWEST_WEIGHT: i64 = 1;
 
 pub const HIGHEST_WEIGHT: i64 = 2147483647;
-
-pub const LOWEST_PHASE: f64 = -1048576.0;
-
-pub const HIGHEST_PHASE: f64 = 1048576.0;

@@ -214,7 +214,8 @@ fn turned(q: u64, r: f64, p: [f64; 2]) -> SinCos
 }
 
 // The domain of the sine and the cosine; no NaN is in it.
-fn in_domain(x: f64) -> bool
+#[inline(always)]
+pub fn in_domain(x: f64) -> bool
     ensures { result ≡ Trig.in_domain x }
 {
     (x >= -1048576.0) & (x <= 1048576.0)

@@ -10,17 +10,10 @@ ghost use Rattle.phonon.specs.Refusal.{leg_phases_ok, pre_phases_ok, orders_ok};
 ghost use Rattle.real_to_reciprocal.specs.Shape.{Anchored, Ranged};
 ghost use Rattle.refusals.specs.Phases.{Located, Readable, points_fine};
 
-use checks::limits;
+use funcs::in_domain;
 use phonon::{Crystal, Grid, Legs, Symmetry, Tables};
 use planes::{index_at, order_at, part_of};
-use real_to_reciprocal::phases::{compute_q_vec, phase, pre_phase};
-
-#[tactic(auto, unfolding(phonon::specs::Trig::in_domain))]
-fn in_domain(x: f64) -> bool
-    ensures { result ≡ in_domain x }
-{
-    (limits::LOWEST_PHASE <= x) & (x <= limits::HIGHEST_PHASE)
-}
+use real_to_reciprocal::phases::{anchor_vector, compute_q_vec, phase, pre_phase};
 
 // Each vector of each entry of the multiplicities, at the q of the three legs. One pass reads each vector once, and by
 // `&` no branch depends on a phase: a way out at the first bad one would help only sets that are turned away.
@@ -53,8 +46,7 @@ fn pre_phase_ok(q: &Legs<[f64; 3]>, crystal: &Crystal<'_>, atoms: usize, i: usiz
     ensures { result ≡ in_domain (pre_phase crystal.now.vectors.now q.now
         (anchor_vector atoms crystal.now.multiplicity.now crystal.now.forces.p2s.now i)) }
 {
-    let n = 2 * (index_at(crystal.forces.p2s, i) * atoms) + 1;
-    in_domain(pre_phase(crystal.vectors, q, index_at(crystal.multiplicity, n)))
+    in_domain(pre_phase(crystal.vectors, q, anchor_vector(crystal, atoms, i)))
 }
 
 // Each atom.
