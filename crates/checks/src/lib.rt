@@ -43,6 +43,7 @@ fn column_sums<const N: usize>(rows: &[[f64; N]]) -> [f64; N]
 {
     let mut sums = [0.0; N];
     for row in rows {
+        // By places: a zip of both arrays reads no plainer.
         for t in 0..N {
             sums[t] = sums[t] + row[t];
         }

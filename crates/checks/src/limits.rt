@@ -9,7 +9,8 @@ pub const MOST_VECTORS: usize = 65536;
 
 pub const MOST_LIST: usize = 4096;
 
-// Lowest and highest stand as two constants: a range `a..=b` is refused here, as a call in a constant's value.
+// Lowest and highest stand as two constants: a range `a..=b` is refused here, as a call in a constant's value, and a struct of both would be
+// taken apart wherever they are handed to is_within or all_within.
 pub const LOWEST_ADDRESS: i64 = -1048576;
 
 pub const HIGHEST_ADDRESS: i64 = 1048576;
