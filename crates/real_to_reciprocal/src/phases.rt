@@ -184,7 +184,6 @@ pub fn pre_phase(vectors: &[f64], q: &Legs<[f64; 3]>, v: usize) -> f64
 }
 
 // The first vector of entry p2s[i] * np of the multiplicities, at which the pre-phase of atom i is taken.
-#[inline(always)]
 pub fn anchor_vector(crystal: &Crystal<'_>, np: usize, i: usize) -> usize
     requires { (i < length crystal.now.forces.p2s.now)
         × (2 * (index (int crystal.now.forces.p2s.now i) * np) + 2 ≤ length crystal.now.multiplicity.now) }

@@ -17,6 +17,7 @@ use real_to_reciprocal::phases::{anchor_vector, compute_q_vec, phase, pre_phase}
 
 // Each vector of each entry of the multiplicities, at the q of the three legs. One pass reads each vector once, and by
 // `&` no branch depends on a phase: a way out at the first bad one would help only sets that are turned away.
+// Leg by leg: `phase` asks that vector v is there, which a closure for `map` would have to say by a clause of its own.
 fn legs_phases_ok(q: &Legs<[f64; 3]>, vectors: &[f64], multiplicity: &[i64], entries: usize) -> bool
     requires { Ranged vectors.now multiplicity.now entries }
     ensures { result ≡ (leg_phases_ok vectors.now multiplicity.now entries q.now.leg0
@@ -27,6 +28,7 @@ fn legs_phases_ok(q: &Legs<[f64; 3]>, vectors: &[f64], multiplicity: &[i64], ent
     for n in 0..entries {
         let count = index_at(multiplicity, 2 * n);
         let start = index_at(multiplicity, 2 * n + 1);
+        // From 0 on, as the definition counts the vectors of an entry.
         for i in 0..count {
             let v = start + i;
             let x = in_domain(phase(&q.leg0, vectors, v));
@@ -76,7 +78,7 @@ fn orders_ok(q: &Legs<[f64; 3]>, symmetry: Symmetry, crystal: &Crystal<'_>, atom
     (0..order_count(symmetry)).all(|o| pre_phases_ok(&q.picked(order_at(o)), crystal, atoms))
 }
 
-// The q of a triplet's three points.
+// The q of a triplet's three points. real_to_normal makes them from the counts that it keeps beside them; here no counts are kept.
 fn legs_at(grid: &Grid<'_>, points: &[i64]) -> Legs<[f64; 3]>
     requires { Located 3 points.now grid.now.addresses.now }
     ensures { result ≡ legs_at (grid_of grid.now) points.now }

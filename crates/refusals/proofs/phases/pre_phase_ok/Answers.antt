@@ -6,9 +6,10 @@ use Rattle.refusals.proofs.phases.pre_phase_ok.Goals as goal
 
 pub anchor_vector-requires : goal.anchor_vector-requires
 anchor_vector-requires c =
-    let a = c.args in
-    (omega (arith, c.requires.0, c.requires.1.atoms),
-    (anchored a.atoms a.crystal.now.vectors.now a.crystal.now.multiplicity.now a.crystal.now.forces.p2s.now a.i c.requires.1 c.requires.0).0)
+    let a = c.args in (
+      omega (arith, c.requires.0, c.requires.1.atoms),
+      (anchored a.atoms a.crystal.now.vectors.now a.crystal.now.multiplicity.now a.crystal.now.forces.p2s.now a.i c.requires.1 c.requires.0).0,
+    )
 
 pub pre_phase-requires : goal.pre_phase-requires
 pre_phase-requires c =
