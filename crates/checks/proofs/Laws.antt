@@ -3,24 +3,23 @@ use Prim.Native.Nat.{ℕ, zero, suc, ◌+◌, ◌-◌, ◌*◌, ◌≤◌, ◌<�
 use mathlib.Core.Bool.{Bool, true, false, not, ◌&&◌, cond, true≢false, and-true, and_assoc}
 use mathlib.Core.Path.{◌≡◌, refl, sym, ap, ◌∙◌}
 use mathlib.Core.List.{List, []}
-use native.Mathlib.Nat.{zero-mul, sub-zero, add-zero, suc-mul}
+use native.Mathlib.Nat.{sub-zero, add-zero, suc-mul}
 use native.Mathlib.Decide.{dec_lt}
 use native.Mathlib.Numerals.{add-one}
 use native.Mathlib.Omega.{arith}
-use lib.Ieee.{Float, nan, inf, fin, binary64, add, lt, eq, div, up, down}
+use lib.Ieee.{Float, nan, inf, fin, is_nan, add}
 use lib.ListN.{length, get_or, set, drop}
 use Rattle.std.specs.Prelude.{◌/◌, ◌%◌, Option, None, Some, MatchOption, is_some, option_map}
+use Rattle.std.specs.Float.{float_is_finite, is_sign_negative}
 use Rattle.std.specs.List.{list_all, range_with_len, AllWithin, HoldsAt}
 use Rattle.std.specs.Simd.{first_chunks}
 use Rattle.std.proofs.lemmas.List.{get_or-set_same, get_or-set_other, get_or-take, get_or-drop, length-set}
 use Rattle.phonon.specs.Number.{◌⊕◌, at, int}
-use lib.Ieee.Fits.{up_pos}
 use lib.IntN.{ℤ, pos}
 use lib.Dec.{leb, eqb}
-use borrow.Author.Tests.{leb-true, leb-false, ltb-true, ltb-false, eqb-true, eq-eqb, ne_eqb, not-true, not-false}
+use borrow.Author.Tests.{leb-true, leb-false, eq-eqb, ne_eqb, not-true, not-false}
 use Rattle.phonon.specs.Tests.{every_below, first_from, finite, sign_bit}
 use Rattle.phonon.proofs.Accepted.{and_both, every_next}
-use Rattle.phonon.proofs.Order.{zero_left}
 use Rattle.checks.specs.Scan.{Passed, SumsTell, first_failing}
 pub use Rattle.phonon.proofs.Accepted.{every_none, every_at, every_bad}
 
@@ -185,51 +184,25 @@ searched q ys d {p} {n} l e o h = sym (option_same o) ∙ searched_from q ys d (
 
 -- ---- floats
 
-pub above_bottom : (x : Float) → lt (inf true) x ≡ true → lt x (inf false) ≡ finite x
-unfolding lt finite
-above_bottom nan e = refl
-above_bottom (inf true) e = sym e
-above_bottom (inf false) e = refl
-above_bottom (fin s m d) e = refl
+-- the library's test of a finite number
+pub same_finite : (x : Float) → float_is_finite x ≡ finite x
+unfolding float_is_finite finite
+same_finite nan = refl
+same_finite (inf s) = refl
+same_finite (fin s m d) = refl
 
-pub at_bottom : (x : Float) → lt (inf true) x ≡ false → false ≡ finite x
-unfolding lt finite
-at_bottom nan e = refl
-at_bottom (inf s) e = refl
-at_bottom (fin s m d) e = sym e
+-- the library's sign bit, which it tells of no NaN
+pub same_sign : (x : Float) → is_sign_negative x ≡ sign_bit x
+unfolding is_sign_negative sign_bit
+same_sign nan = refl
+same_sign (inf s) = refl
+same_sign (fin s m d) = refl
 
--- ---- the sign bit
-
-abbrev zero_float : Float
-zero_float = fin false 0 (pos 0)
-
-pub below_zero : (x : Float) → lt x zero_float ≡ true → true ≡ sign_bit x
-unfolding lt sign_bit
-below_zero nan e = sym e
-below_zero (inf s) e = sym e
-below_zero (fin true m d) e = refl
-below_zero (fin false m d) e = absurd (omega (arith, ltb-true (m * up d * 1) (0 * down d) e, zero-mul (down d)))
-
-no_magnitude : (m : ℕ) (d : ℤ) → eqb (m * up d * 1) (0 * down d) ≡ true → m ≡ 0
-no_magnitude m d e = zero_left m (up d) (up_pos d) (omega (arith, eqb-true (m * up d * 1) (0 * down d) e, zero-mul (down d)))
-
-pub zero_sign : (x : Float) → eq x zero_float ≡ true → lt (div binary64 (fin false 1 (pos 0)) x) zero_float ≡ sign_bit x
-unfolding eq lt div sign_bit
-zero_sign nan e = refl
-zero_sign (inf s) e = absurd (let z : ◌≡◌ {A = ℕ} 0 1 = cc in omega arith)
-zero_sign (fin true m d) e = rw (no_magnitude m d (and_left (eqb (m * up d * 1) (0 * down d)) _ e)) refl
-zero_sign (fin false m d) e = rw (no_magnitude m d (and_left (eqb (m * up d * 1) (0 * down d)) _ e)) refl
-
-pub above_zero : (x : Float) → lt x zero_float ≡ false → eq x zero_float ≡ false → false ≡ sign_bit x
-unfolding lt eq sign_bit
-above_zero nan e q = refl
-above_zero (inf s) e q = sym e
-above_zero (fin false m d) e q = refl
-above_zero (fin true m d) e q =
-    let least = ltb-false 0 (m * up d * 1 + 0 * down d) e in
-    let none : m * up d * 1 ≡ 0 = omega (arith, least) in
-    let none' : m * up d * 1 ≡ 0 * down d = omega (arith, least, zero-mul (down d)) in
-    sym q ∙ rw (eq-eqb (m * up d * 1) (0 * down d) none', eq-eqb (m * up d * 1) 0 none) refl
+pub nan_sign : (x : Float) → is_nan x ≡ true → false ≡ sign_bit x
+unfolding is_nan sign_bit
+nan_sign nan e = refl
+nan_sign (inf s) e = absurd (true≢false (sym e))
+nan_sign (fin s m d) e = absurd (true≢false (sym e))
 
 -- ---- sums
 

@@ -17,7 +17,7 @@ pub fn check_count(list: usize, triplets: &[i64]) -> Result<(), Refusal>
     require(triplets.len() == 3 * list, Refusal::Length)
 }
 
-// Flags and strengths of n slots, and the work buffer, the lent ones by their lengths: 2.
+// Flags and strengths of n slots, and the work buffer: 2. Those that the door lends to be written come by their lengths: nothing in them is read.
 pub fn check_slots(
     n: usize,
     z: Sizes,
@@ -39,7 +39,7 @@ pub fn check_points(grid: usize, points: &[i64]) -> Result<(), Refusal>
     require(points_ok(grid, points), Refusal::Index)
 }
 
-// The bath, both weights of n entries, and the totals of so many first bands: 2, 4 and 8.
+// The bath, both weights of n entries, and the totals of so many first bands, by their length: 2, 4 and 8.
 pub fn check_bath(
     n: usize,
     bands: usize,

@@ -19,22 +19,14 @@ ghost use Rattle.checks.specs.Scan.{Passed, SumsTell, first_failing};
 pub fn is_finite(x: f64) -> bool
     ensures { result ≡ finite x }
 {
-    let top = 1.0 / 0.0;
-    let bottom = -top;
-    if bottom < x { x < top } else { false }
+    x.is_finite()
 }
 
-// Of a zero, the sign is that of its inverse.
+// That of a NaN counts as not set.
 pub fn sign_bit(x: f64) -> bool
     ensures { result ≡ sign_bit x }
 {
-    if x < 0.0 {
-        return true;
-    }
-    if x == 0.0 {
-        return 1.0 / x < 0.0;
-    }
-    false
+    !x.is_nan() && x.is_sign_negative()
 }
 
 pub fn is_within(low: i64, high: i64, x: i64) -> bool
@@ -51,6 +43,7 @@ fn column_sums<const N: usize>(rows: &[[f64; N]]) -> [f64; N]
 {
     let mut sums = [0.0; N];
     for row in rows {
+        // By places: a zip of both arrays reads no plainer.
         for t in 0..N {
             sums[t] = sums[t] + row[t];
         }

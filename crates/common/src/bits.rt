@@ -1,4 +1,5 @@
-// Numbers by their bits. Every NaN counts as one, whose bits are 7ff8000000000000.
+// Numbers by their bits. Every NaN counts as one, whose bits are 7ff8000000000000. The library's functions, with contracts in the definition's
+// word `bits`.
 ghost use Rattle.std.specs.Prelude.{◌≡◌, to_bits};
 ghost use Rattle.std.specs.Float.{binary64};
 ghost use Rattle.phonon.specs.Number.{bits};

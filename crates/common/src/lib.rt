@@ -81,7 +81,7 @@ pub fn cmplx_scale(a: Complex, s: f64) -> Complex
     }
 }
 
-// Whether both parts are zero, of either sign.
+// Whether both parts are zero, of either sign. Part by part: a comparison with a Complex of two zeros is longer.
 #[tactic(auto, unfolding(phonon::specs::Common::is_zero))]
 pub fn is_zero(a: Complex) -> bool
     ensures { result ≡ is_zero a }

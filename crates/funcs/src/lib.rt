@@ -74,6 +74,7 @@ fn exp_series<const N: usize>(r: [f64; N]) -> [f64; N]
 {
     let mut p = [1.0; N];
     for d in &EXP_DIVISORS {
+        // By places, here and below: a zip of two arrays reads no plainer.
         for k in 0..N {
             p[k] = 1.0 + p[k] * (r[k] / *d);
         }
@@ -81,7 +82,8 @@ fn exp_series<const N: usize>(r: [f64; N]) -> [f64; N]
     p
 }
 
-// The exponential of x. Above 709 it is infinity; below 0, and of a NaN, it is a NaN.
+// The exponential of x. Above 709 it is infinity; below 0, and of a NaN, it is a NaN. Its first case is that of exps, but it cannot be exps of
+// one number: where one of several is out of range, exps calls it for each.
 pub fn exp(x: f64) -> f64
     ensures { result ≡ Exp.exp x }
 {
@@ -214,7 +216,8 @@ fn turned(q: u64, r: f64, p: [f64; 2]) -> SinCos
 }
 
 // The domain of the sine and the cosine; no NaN is in it.
-fn in_domain(x: f64) -> bool
+#[inline(always)]
+pub fn in_domain(x: f64) -> bool
     ensures { result ≡ Trig.in_domain x }
 {
     (x >= -1048576.0) & (x <= 1048576.0)

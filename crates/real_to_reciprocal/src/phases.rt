@@ -183,7 +183,17 @@ pub fn pre_phase(vectors: &[f64], q: &Legs<[f64; 3]>, v: usize) -> f64
     sum * (2.0 * PI)
 }
 
-// The pre-factor of atom i: that of the first vector of entry p2s[i] * np of the multiplicities.
+// The first vector of entry p2s[i] * np of the multiplicities, at which the pre-phase of atom i is taken.
+pub fn anchor_vector(crystal: &Crystal<'_>, np: usize, i: usize) -> usize
+    requires { (i < length crystal.now.forces.p2s.now)
+        × (2 * (index (int crystal.now.forces.p2s.now i) * np) + 2 ≤ length crystal.now.multiplicity.now) }
+    ensures { result ≡ Def.anchor_vector np crystal.now.multiplicity.now crystal.now.forces.p2s.now i }
+{
+    let n = 2 * (index_at(crystal.forces.p2s, i) * np) + 1;
+    index_at(crystal.multiplicity, n)
+}
+
+// The pre-factor of atom i.
 fn get_pre_phase_factor(i: usize, q: &Legs<[f64; 3]>, crystal: &Crystal<'_>, np: usize) -> Complex
     requires { (i < length crystal.now.forces.p2s.now)
         × (2 * (index (int crystal.now.forces.p2s.now i) * np) + 2 ≤ length crystal.now.multiplicity.now)
@@ -192,8 +202,7 @@ fn get_pre_phase_factor(i: usize, q: &Legs<[f64; 3]>, crystal: &Crystal<'_>, np:
     ensures { result ≡ Def.pre_factor_entry np crystal.now.vectors.now
         crystal.now.multiplicity.now crystal.now.forces.p2s.now q.now i }
 {
-    let n = 2 * (index_at(crystal.forces.p2s, i) * np) + 1;
-    cis(pre_phase(crystal.vectors, q, index_at(crystal.multiplicity, n)))
+    cis(pre_phase(crystal.vectors, q, anchor_vector(crystal, np, i)))
 }
 
 // The pre-factors: np numbers in planes from `off` on.

@@ -3,9 +3,9 @@ use Prim.Native.Nat.{ℕ, zero, suc, ◌+◌, ◌*◌, ◌<◌, ◌≤◌}
 use native.Mathlib.Omega.{arith}
 use mathlib.Core.Bool.{Bool, true, false, ◌&&◌, and-false, and_assoc}
 use mathlib.Core.Path.{◌≡◌, refl, ap, ◌∙◌}
-use mathlib.Core.List.{List}
+use mathlib.Core.List.{List, []}
 use lib.IntN.{ℤ, pos}
-use lib.ListN.{length}
+use lib.ListN.{length, get_or}
 use lib.Ieee.{Float}
 use Rattle.phonon.specs.Number.{index, int}
 use Rattle.phonon.specs.Trig.{in_domain}
@@ -15,7 +15,7 @@ use Rattle.phonon.specs.Sets.{part, Tables}
 use Rattle.phonon.specs.RealToReciprocal.{phase, pre_phase, anchor_vector}
 use Rattle.phonon.specs.declared.Symmetry.{Symmetry}
 use Rattle.phonon.specs.declared.Symmetry.TheVariants.{Off, Symmetrized}
-use Rattle.phonon.specs.Interaction.{exchanged, order_count, legs_at}
+use Rattle.phonon.specs.Interaction.{orders, picked, exchanged, order_count, legs_at}
 use Rattle.phonon.proofs.Laws.{part_at, part_size}
 use Rattle.checks.proofs.Laws.{every_step}
 use Rattle.phonon.specs.Refusal.{leg_phases_ok, pre_phases_ok, orders_ok, phases_ok}
@@ -91,6 +91,12 @@ pub atoms_are : (P : ℕ) (vectors : List Float) (multiplicity p2s : List ℤ) (
     → every_below (atom_fine P vectors multiplicity p2s q) P ≡ pre_phases_ok P vectors multiplicity p2s q
 unfolding pre_phases_ok
 atoms_are P vectors multiplicity p2s q = refl
+
+-- the legs picked in order o
+pub picked_exchanged : (o : ℕ) {order : List ℕ} (q : Legs (List Float)) {r : Legs (List Float)} → order ≡ get_or orders o []
+    → r ≡ picked q (get_or order 0 0) (get_or order 1 0) (get_or order 2 0) → r ≡ exchanged o q
+unfolding exchanged
+picked_exchanged o q e f = f ∙ rw e refl
 
 -- order o of the legs
 abbrev pub order_fine : ℕ → List Float → List ℤ → List ℤ → Legs (List Float) → ℕ → Bool

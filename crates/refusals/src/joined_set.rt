@@ -10,6 +10,7 @@ use checks::measures::check_measures;
 use checks::verdict::lower_of;
 use phonon::{Bath, IntegrationWeights, Refusal, Tables};
 
+// The parameters are the door's own, in its order: a struct of them would be put together there for this one call.
 pub fn check_joined(
     tables: &Tables<'_>,
     triplet: [i64; 3],

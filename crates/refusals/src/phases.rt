@@ -4,26 +4,20 @@ ghost use Rattle.phonon.specs.Handed.{grid_of, tables_of};
 ghost use Rattle.phonon.specs.Sets.{part};
 ghost use Rattle.phonon.specs.Tests.{every_below};
 ghost use Rattle.phonon.specs.Trig.{in_domain};
-ghost use Rattle.phonon.specs.Interaction.{order_count, exchanged, legs_at};
+ghost use Rattle.phonon.specs.Interaction.{order_count, legs_at};
 ghost use Rattle.phonon.specs.RealToReciprocal.{pre_phase, anchor_vector};
 ghost use Rattle.phonon.specs.Refusal.{leg_phases_ok, pre_phases_ok, orders_ok};
 ghost use Rattle.real_to_reciprocal.specs.Shape.{Anchored, Ranged};
 ghost use Rattle.refusals.specs.Phases.{Located, Readable, points_fine};
 
-use checks::limits;
+use funcs::in_domain;
 use phonon::{Crystal, Grid, Legs, Symmetry, Tables};
 use planes::{index_at, order_at, part_of};
-use real_to_reciprocal::phases::{compute_q_vec, phase, pre_phase};
-
-#[tactic(auto, unfolding(phonon::specs::Trig::in_domain))]
-fn in_domain(x: f64) -> bool
-    ensures { result ≡ in_domain x }
-{
-    (limits::LOWEST_PHASE <= x) & (x <= limits::HIGHEST_PHASE)
-}
+use real_to_reciprocal::phases::{anchor_vector, compute_q_vec, phase, pre_phase};
 
 // Each vector of each entry of the multiplicities, at the q of the three legs. One pass reads each vector once, and by
 // `&` no branch depends on a phase: a way out at the first bad one would help only sets that are turned away.
+// Leg by leg: `phase` asks that vector v is there, which a closure for `map` would have to say by a clause of its own.
 fn legs_phases_ok(q: &Legs<[f64; 3]>, vectors: &[f64], multiplicity: &[i64], entries: usize) -> bool
     requires { Ranged vectors.now multiplicity.now entries }
     ensures { result ≡ (leg_phases_ok vectors.now multiplicity.now entries q.now.leg0
@@ -34,6 +28,7 @@ fn legs_phases_ok(q: &Legs<[f64; 3]>, vectors: &[f64], multiplicity: &[i64], ent
     for n in 0..entries {
         let count = index_at(multiplicity, 2 * n);
         let start = index_at(multiplicity, 2 * n + 1);
+        // From 0 on, as the definition counts the vectors of an entry.
         for i in 0..count {
             let v = start + i;
             let x = in_domain(phase(&q.leg0, vectors, v));
@@ -53,8 +48,7 @@ fn pre_phase_ok(q: &Legs<[f64; 3]>, crystal: &Crystal<'_>, atoms: usize, i: usiz
     ensures { result ≡ in_domain (pre_phase crystal.now.vectors.now q.now
         (anchor_vector atoms crystal.now.multiplicity.now crystal.now.forces.p2s.now i)) }
 {
-    let n = 2 * (index_at(crystal.forces.p2s, i) * atoms) + 1;
-    in_domain(pre_phase(crystal.vectors, q, index_at(crystal.multiplicity, n)))
+    in_domain(pre_phase(crystal.vectors, q, anchor_vector(crystal, atoms, i)))
 }
 
 // Each atom.
@@ -75,30 +69,16 @@ fn order_count(symmetry: Symmetry) -> usize
     }
 }
 
-// The three q in order o.
-#[tactic(auto, unfolding(phonon::specs::Interaction::exchanged))]
-fn exchanged(q: &Legs<[f64; 3]>, o: usize) -> Legs<[f64; 3]>
-    requires { o < 6 }
-    ensures { result ≡ exchanged o q.now }
-{
-    let order = order_at(o);
-    Legs {
-        leg0: q.leg(order[0]),
-        leg1: q.leg(order[1]),
-        leg2: q.leg(order[2]),
-    }
-}
-
 // Each order of the legs that is used.
 fn orders_ok(q: &Legs<[f64; 3]>, symmetry: Symmetry, crystal: &Crystal<'_>, atoms: usize) -> bool
     requires { Anchored crystal.now.vectors.now crystal.now.multiplicity.now crystal.now.forces.p2s.now atoms }
     ensures { result ≡ orders_ok atoms symmetry crystal.now.vectors.now crystal.now.multiplicity.now
         crystal.now.forces.p2s.now q.now }
 {
-    (0..order_count(symmetry)).all(|o| pre_phases_ok(&exchanged(q, o), crystal, atoms))
+    (0..order_count(symmetry)).all(|o| pre_phases_ok(&q.picked(order_at(o)), crystal, atoms))
 }
 
-// The q of a triplet's three points.
+// The q of a triplet's three points. real_to_normal makes them from the counts that it keeps beside them; here no counts are kept.
 fn legs_at(grid: &Grid<'_>, points: &[i64]) -> Legs<[f64; 3]>
     requires { Located 3 points.now grid.now.addresses.now }
     ensures { result ≡ legs_at (grid_of grid.now) points.now }

@@ -11,13 +11,6 @@ use common::bits::{bits_of, f64_of_bits};
 use std::fmt;
 use std::io::Read;
 
-// Room for the list.
-fn input_buffer() -> [u8; 98304]
-    ensures { 98304 ≡ length result }
-{
-    [0; 98304]
-}
-
 // The value of a hexadecimal digit. The library's from_str_radix takes capitals and a sign as well, which no line here may have.
 fn digit(b: u8) -> Option<u64>
     ensures { IfSome result (λ d. d < 16) }
@@ -62,7 +55,7 @@ impl fmt::Display for Function {
     }
 }
 
-// The function of a name.
+// The function of a name. Display hands the same names to a formatter: without a heap, nothing holds them for a comparison.
 fn named(name: &[u8]) -> Option<Function> {
     match name {
         b"root" => Some(Function::Root),
@@ -125,6 +118,7 @@ fn counted(list: &[u8]) -> Counts {
         }
         match replay(line) {
             Some(r) => {
+                // By the function's number: a match to one count of five would say no more.
                 let count = &mut counts.functions[r.function as usize];
                 count.all = count.all.wrapping_add(1);
                 if !r.agrees {
@@ -154,7 +148,8 @@ fn read_full<R: Read>(input: &mut R, buf: &mut [u8]) -> usize
 }
 
 fn main(rt: HostRuntime) {
-    let mut input = input_buffer();
+    // Room for the list.
+    let mut input = [0u8; 98304];
     let n = read_full(&mut rt.stdin(), &mut input);
     let counts = counted(&input[..n]);
     for function in [

@@ -1,16 +1,12 @@
--- A number below zero, a zero by the sign of its inverse, and any other.
-use lib.Ieee.{of_bits}
-use Rattle.checks.proofs.Laws.{below_zero, zero_sign, above_zero}
+-- A NaN, and any other number by the library's test.
+use mathlib.Core.Path.{sym, ◌∙◌}
+use Rattle.checks.proofs.Laws.{same_sign, nan_sign}
 use Rattle.checks.proofs.sign_bit.Goals as goal
 
-pub returns-then-x : goal.returns-then-x
-unfolding of_bits
-returns-then-x c = below_zero c.args.x c.if-x.true
+pub returns-then-not-is_nan : goal.returns-then-not-is_nan
+returns-then-not-is_nan c = c.is_sign_negative.ensures ∙ same_sign c.args.x
 
-pub returns-then-x-2 : goal.returns-then-x-2
-unfolding of_bits
-returns-then-x-2 c = zero_sign c.args.x c.if-x-2.true
-
-pub returns : goal.returns
-unfolding of_bits
-returns c = above_zero c.args.x c.if-x.false c.if-x-2.false
+pub returns-else-not-is_nan : goal.returns-else-not-is_nan
+returns-else-not-is_nan c =
+    let none = c.if-not-is_nan.false in
+    rw none (nan_sign c.args.x (sym c.is_nan.ensures.value ∙ none))
