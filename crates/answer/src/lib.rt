@@ -25,7 +25,7 @@ pub const MOST_INPUT: usize = 49153;
 // Room for the lines of any file.
 pub type Text = ArrayVec<u8, 25600>;
 
-// The lines of a carton's set, with columns and buffers that are lent, one by one as the door takes them.
+// The lines of a carton's set. The columns, which are only read, are one struct; the buffers stand side by side, as the door takes them.
 fn set_lines(
     h: &Heading,
     columns: &Columns<'_>,
