@@ -14,6 +14,7 @@ ghost use Rattle.answer.specs.Printed.{printed};
 use arrayvec::ArrayVec;
 use carton::{Columns, Heading, heading_of, read_column, read_words};
 use carton_door::run_door;
+use checks::verdict::require;
 use phonon::Refusal;
 use std::array;
 use text::{Slots, put_accepted, put_refused};
@@ -24,7 +25,7 @@ pub const MOST_INPUT: usize = 49153;
 // Room for the lines of any file.
 pub type Text = ArrayVec<u8, 25600>;
 
-// The lines of a carton's set, with columns and buffers that are lent, one by one as the door takes them.
+// The lines of a carton's set. The columns, which are only read, are one struct; the buffers stand side by side, as the door takes them.
 fn set_lines(
     h: &Heading,
     columns: &Columns<'_>,
@@ -96,12 +97,8 @@ fn blocks_lines(input: &[u8], words: &mut [u64]) -> Result<Text, Refusal>
 fn lines_of(input: &[u8]) -> Result<Text, Refusal>
     ensures { printed result ≡ answer_text input.now }
 {
-    if !carton::size_ok(input) {
-        return Err(Refusal::File);
-    }
-    if !carton::blocks_ok(input) {
-        return Err(Refusal::Block);
-    }
+    require(carton::size_ok(input), Refusal::File)?;
+    require(carton::blocks_ok(input), Refusal::Block)?;
     let mut words = array::repeat::<u64, 6048>(0);
     let n = 63 * (input.len() / 512);
     blocks_lines(input, &mut words[..n])

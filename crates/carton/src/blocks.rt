@@ -2,7 +2,7 @@
 ghost use Rattle.std.specs.Prelude.{◌≡◌, ◌+◌, ◌*◌, ◌≤◌, ◌<◌, length};
 ghost use Rattle.carton.specs.Blocks.{four_at, eight_at, size_ok, check_of, block_ok, blocks_ok};
 
-// The little-endian number of four bytes from byte i on.
+// The little-endian number of four bytes from byte i on. Beside eight_at: a trait with u32 and u64 as its types would be longer than both.
 #[tactic(auto, unfolding(crate::specs::Blocks::four_at))]
 fn four_at(s: &[u8], i: usize) -> u32
     requires { i + 4 ≤ length s.now }
@@ -19,7 +19,7 @@ pub(crate) fn eight_at(s: &[u8], i: usize) -> u64
     u64::from_le_bytes(<[u8; 8]>::try_from(&s[i..i + 8]).unwrap())
 }
 
-// Number 10. 49,152 bytes are 96 blocks.
+// Number 10. 49,152 bytes are 96 blocks. A bool, here and of number 11, as the tests of `checks` are: who reads the file makes a refusal of it.
 #[tactic(auto, unfolding(crate::specs::Blocks::size_ok))]
 pub fn size_ok(s: &[u8]) -> bool
     ensures { result ≡ size_ok s.now }

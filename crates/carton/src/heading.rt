@@ -31,7 +31,7 @@ pub struct Places {
     pub end: usize,
 }
 
-// What words 0 to 6 say, and the places that follow from it.
+// What words 0 to 6 say, and the places that follow from it. That these fit a file (`Fitted`) is no ghost field: it is of the file's length as well.
 #[derive(Clone, Copy)]
 pub struct Heading {
     pub measures: Measures,

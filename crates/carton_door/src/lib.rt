@@ -12,7 +12,7 @@ use joined::joined_at_triplet;
 use phonon::{Bath, Crystal, Forces, Grid, IntegrationWeights, Phonons, Refusal, Settings, Tables};
 use planes::array_at;
 
-// Strengths, totals and the work buffer one by one, as the joined door takes them.
+// Strengths, totals and work stand side by side: the joined door takes them so, and a struct of them would be taken apart for that one call.
 pub fn run_door(
     h: &Heading,
     columns: &Columns<'_>,

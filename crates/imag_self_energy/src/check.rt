@@ -48,7 +48,7 @@ fn check_alone(
     require(cutoff_ok(cutoff), Refusal::Cutoff)
 }
 
-// All of them.
+// All of them. Handed what the door is, and no `Sum`: before the measures are tested 3 * atoms may not fit.
 pub fn check(
     m: TotalsMeasures,
     weights: Weights,

@@ -99,8 +99,8 @@ pub fn write_totals(sum: &Sum<'_>, strengths: &[f64], totals: &mut [f64])
     }
 }
 
-// Totals alone: document 01's third door. It is handed what document 01 lists, here and in its tests: no other door is handed the same, so
-// that a struct of it would be made for this one call.
+// Totals alone: document 01's third door. It is handed what document 01 lists, one by one: `Sum` has the bands, which are known only once the
+// measures are tested.
 pub fn imag_self_energy_at_triplet(
     m: TotalsMeasures,
     weights: Weights,

@@ -1,6 +1,6 @@
 // The totals by lists of the slots that count: pair (j, k) of n bands has place j * n + k, and slot (b, j, k) is
-// b * (n * n) behind it. A place is written behind a list, to stay or not: by a branch half of them would be guessed
-// wrong. So a list is an array and a count, and no ArrayVec, which has nothing behind its end.
+// b * (n * n) behind it. Each place is written behind a list, and counts or is written over, with no branch. So a list is an array and a count, and
+// no ArrayVec, which has nothing behind its end. What the lists have room for is a clause: they are lent one by one, and only some of them to each.
 ghost use Rattle.std.specs.Prelude.{◌≡◌, ℕ, Float, ◌+◌, ◌*◌, ◌<◌, ◌≤◌, length, get_or};
 ghost use Rattle.phonon.specs.Number.{◌⊕◌, f0, fold, table};
 ghost use Rattle.phonon.specs.ImagSelfEnergy.{block};
@@ -35,7 +35,7 @@ fn list_pairs(cutoff: f64, later: &Later<'_>, pairs: &mut [u16]) -> usize
 }
 
 // Of the listed pairs those that are unflagged in block c, and those in block d, of area flags each. The answer is how
-// many of each. Two lists at once take less time than one after the other.
+// many of each. The pairs are read once for both.
 #[tactic(auto, using(crate::proofs::ListLaws::listed_none), unfolding(phonon::specs::Number::fold, crate::specs::Lists::unflagged_walk))]
 fn list_unflagged(
     pairs: &[u16],

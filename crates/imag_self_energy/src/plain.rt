@@ -9,7 +9,8 @@ use crate::slots::{Later, Slots};
 use crate::{NO_BAND, PLAIN_BANDS, Shared};
 use phonon::Band;
 
-// What a slot that counts adds: p and q are its later bands, x and y its weights, v its strength.
+// What a slot that counts adds: p and q are its later bands, x and y its weights, v its strength. Not the listed term, which has its factors at hand
+// and no test of the temperature.
 #[tactic(auto, unfolding(phonon::specs::ImagSelfEnergy::contribution))]
 fn contribution(h: Shared, p: Band, q: Band, x: f64, y: f64, v: f64) -> f64
     ensures { result ≡ contribution h.temperature h.weight p.occupation q.occupation x y v }
@@ -50,7 +51,7 @@ fn fill_plain(slots: &Slots<'_>, later: &Later<'_>, totals: &mut [f64])
     }
 }
 
-// From the frequencies of the later legs.
+// From the frequencies of the later legs. The arrays are made here, as in listed_totals: what made them for both could not lend them to its caller.
 pub fn plain_totals(slots: &Slots<'_>, leg1: &[f64], leg2: &[f64], totals: &mut [f64])
     requires { (length totals.old ≡ slots.now.positions)
         × (slots.now.bands ≤ plain_bands)

@@ -5,7 +5,8 @@ ghost use Rattle.imag_self_energy.specs.Bands.{most_bands, Sized};
 use crate::Shared;
 use phonon::{Band, IntegrationWeights, Weights};
 
-// The slots of as many first bands as there are positions, and of so many bands of each later leg.
+// The slots of as many first bands as there are positions, and of so many bands of each later leg. The totals, one of each position, are written,
+// and so stand beside it: that they are as many is a clause of each function that writes them.
 #[derive(Clone, Copy)]
 pub struct Slots<'a> {
     pub shared: Shared,
@@ -18,7 +19,7 @@ pub struct Slots<'a> {
     pub ghost sized: { Sized weights bands positions flags.now integration.first.now integration.second.now strengths.now },
 }
 
-// The bands of both later legs, of each as many.
+// The bands of both later legs, of each as many. Every one of the second goes with every one of the third: no array of pairs.
 #[derive(Clone, Copy)]
 pub struct Later<'a> {
     pub seconds: &'a [Band],

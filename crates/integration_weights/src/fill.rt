@@ -1,4 +1,5 @@
 // The slots of one triplet: blocks of a position of the bands table, rows of a band of the second leg, in a row the bands of the third.
+// Good and Finite are clauses, and no ghost fields: a shape and frequencies are made before the door's tests find them so.
 ghost use Rattle.std.specs.Prelude.{◌≡◌, true, ℕ, ◌*◌, ◌<◌, ◌≤◌, length};
 ghost use Rattle.phonon.specs.Number.{index, int};
 ghost use Rattle.phonon.specs.Tests.{finite};
@@ -10,8 +11,7 @@ use crate::shapes::{Bell, Broadening};
 use phonon::Legs;
 use planes::index_at;
 
-// Of the shape's three values: since none is negative, their sum is zero exactly if all are. One comparison takes much less time
-// than three.
+// Of the shape's three values: since none is negative, their sum is zero exactly if all are. A flag is a byte, as document 01 has it.
 fn flag_of(a: f64, b: f64, c: f64) -> u8
     requires { Value a × Value b × Value c }
     ensures { result ≡ flag_of a b c }
@@ -23,8 +23,8 @@ fn flag_of(a: f64, b: f64, c: f64) -> u8
 }
 
 // A row, two slots at a time: x and y are the frequencies of its bands of the first two legs, leg has those of the third.
-// First, second and flags stand side by side, here and below: of a struct of the three behind a reference, parts of two fields are not lent at
-// once yet by the borrow check, nor two whole fields of a struct that is handed over by value.
+// First, second and flags stand side by side, here and below: a struct of the three would be taken apart and made anew for each block and row, since
+// the borrow check does not yet cover one that is made of parts of two fields of another.
 fn row<B: Broadening>(
     of: B,
     x: f64,

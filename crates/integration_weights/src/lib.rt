@@ -49,6 +49,7 @@ pub fn integration_weights_at_triplet(
 {
     check(m, shape, triplet, bands, frequencies, first, second, flags)?;
     let n = 3 * m.atoms;
+    // One by one: part_of asks that the part lies in the slice, which a closure for Legs::map would have to say of its point by a clause.
     let g0 = index_of(triplet[0]);
     let g1 = index_of(triplet[1]);
     let g2 = index_of(triplet[2]);

@@ -23,7 +23,7 @@ pub fn width_of(s: Shape) -> f64
     }
 }
 
-// f64::abs clears the sign of a zero besides, by one more test at each distance, which plays no part here.
+// The definition's, which leaves a zero's sign: f64::abs clears it besides, which plays no part here.
 #[tactic(auto, unfolding(crate::specs::Shapes::magnitude))]
 fn magnitude(d: f64) -> f64
     ensures { result ≡ Shapes.magnitude d }
@@ -79,7 +79,7 @@ fn is_cut(w: f64, d: f64) -> bool
 }
 
 // The exponential's argument at t. Where the distance is cut it is 0.0, in the domain of the exponentials that are worked side by side. The
-// test stands beside it, and no Option: it picks the value as well, and where one of two distances is cut both are worked, with no branch.
+// test stands beside it, and no Option: it picks the value as well, and where one of two distances is cut both exponentials are worked.
 fn argument(cut: bool, t: f64) -> f64
     ensures { result ≡ cond cut f0 (t ⊗ t ⊘ f2) }
 {

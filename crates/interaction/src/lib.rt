@@ -12,7 +12,8 @@ use phonon::{Refusal, Tables};
 use real_to_normal::triplet::work_triplet;
 use refusals::triplet::check_triplet;
 
-// One triplet: document 01's first door.
+// One triplet: document 01's first door. Strengths and work stand side by side, here and in the list's functions: a struct of two `&mut` would be
+// made anew for each triplet of a list, whose part of the strengths is its own.
 #[tactic(auto, using(crate::proofs::DoorLaws::refused, crate::proofs::DoorLaws::accepted))]
 pub fn get_interaction_at_triplet(
     tables: &Tables<'_>,

@@ -12,7 +12,7 @@ use planes::array_at;
 use real_to_normal::triplet::work_triplet;
 use refusals::list::check_list;
 
-// The worker of a list: the strengths of an accepted set, and the work buffer cleared.
+// The worker of a list: the strengths of an accepted set, and the work buffer cleared. Handed what the door is, since its promise is of the same set.
 fn work_list(
     tables: &Tables<'_>,
     list: usize,
@@ -54,7 +54,7 @@ fn work_list(
     }
 }
 
-// A list of triplets: document 01's second door.
+// A list of triplets: document 01's second door, which is handed both their number and their points: that these are 3 * list numbers is a test of it.
 #[tactic(auto, using(crate::proofs::DoorLaws::list_refused, crate::proofs::DoorLaws::list_accepted))]
 pub fn get_interaction(
     tables: &Tables<'_>,

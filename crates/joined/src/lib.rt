@@ -12,8 +12,8 @@ use phonon::{Bath, IntegrationWeights, Refusal, Tables, Weights};
 use real_to_normal::triplet::work_triplet;
 use refusals::joined_set::check_joined;
 
-// Document 01's fourth door. The three lent buffers stand side by side: the worker takes two of them, the sum another two, so that a struct of
-// them would be made and taken apart here alone.
+// Document 01's fourth door, which lists three lent buffers, side by side here and above: a struct of three `&mut` would be made for each call, and
+// each clause name every buffer through it; of a struct of arrays behind a reference the borrow check lends no part of one field beside another.
 #[tactic(auto, using(crate::proofs::JoinedLaws::few, crate::proofs::JoinedLaws::refused, crate::proofs::JoinedLaws::accepted))]
 pub fn joined_at_triplet(
     tables: &Tables<'_>,

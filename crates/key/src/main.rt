@@ -5,7 +5,8 @@ use arrayvec::ArrayVec;
 use std::io;
 use std::io::{Read, Write};
 
-// A read that fails ends the input. A key that could not be written whole, as to a full disk, is told of on standard error.
+// A read that fails ends the input; one that is interrupted is tried again first. A key that could not be written whole, as to a full disk, is
+// told of on standard error.
 fn main(rt: HostRuntime) {
     let mut input = ArrayVec::<u8, { answer::MOST_INPUT }>::new();
     let _ = io::copy(&mut rt.stdin().take(answer::MOST_INPUT as u64), &mut input);

@@ -8,7 +8,7 @@ pub struct Case {
     pub cutoff: f64,
     pub anchoring: Anchoring,
     pub symmetry: Symmetry,
-    // the one entry of all-shortest and of nonzero, and the force constant at (0, 1, 2)
+    // the one entry of all-shortest and of nonzero, bytes as document 01 has them, and the force constant at (0, 1, 2)
     pub shortest: u8,
     pub nonzero: u8,
     pub constant: f64,

@@ -338,7 +338,7 @@ fn run_totals(
 }
 
 // Lends a door the part of each buffer that the case's F names, and returns its answer.
-// The three buffers are lent side by side: parts of two fields of a struct behind a reference are not covered by the borrow check.
+// The three buffers are lent side by side: of a struct of arrays behind a reference the borrow check lends no part of one field beside another.
 fn run(
     door: Door,
     c: &Case,
@@ -396,7 +396,7 @@ fn expected_answer(door: Door, c: &Case) -> Result<(), Refusal>
     }
 }
 
-// Copies n numbers to index at.
+// Copies n numbers to index at: its calls have in one word (`paste`) what copy_from_slice of a range would tell each of them of its parts.
 fn copy(from: &[f64], to: &mut [f64], at: usize, n: usize)
     requires { (n ≤ length from.now) × (at + n ≤ length to.old) }
     ensures { to.new ≡ paste to.old at from.now n }
@@ -407,7 +407,8 @@ fn copy(from: &[f64], to: &mut [f64], at: usize, n: usize)
 // W of cell U, with P = S = 1.
 const W: usize = 203;
 
-// Writes what the door is to leave, in the parts that it is lent. A refused call leaves everything as found.
+// Writes what the door is to leave, in the parts that it is lent. A refused call leaves everything as found. Side by side as those of `run`, so that
+// both promises are of the same three.
 fn expect(
     door: Door,
     c: &Case,

@@ -2,9 +2,8 @@
 // little-endian, and its bytes, of which only the first 49,153 matter and are sent.
 #![tactic(auto)]
 
-use std::array;
-use std::io;
 use std::io::{ErrorKind, Read, Write};
+use std::{array, io};
 
 // Reads one carton and writes its answer.
 fn next_carton<R: Read, W: Write>(from: &mut R, to: &mut W) -> io::Result<()> {

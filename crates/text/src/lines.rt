@@ -8,6 +8,7 @@ use crate::Slots;
 use crate::number::{put, put_bits, put_number};
 use arrayvec::ArrayVec;
 
+// The line of any number: of a Refusal it would promise less.
 #[tactic(auto, using(crate::proofs::Laws::parts, crate::proofs::Lengths::refused_length), unfolding(crate::specs::Lines::refused_line))]
 pub fn put_refused<const N: usize>(text: &mut ArrayVec<u8, N>, n: u8)
     requires { array_vec_len text.old + refused_room ≤ N }

@@ -42,7 +42,8 @@ impl Slots<'_> {
         }
     }
 
-    // The slots of one first band and one third-leg band.
+    // The slots of one first band and one third-leg band. Its loop and those below stand by themselves: a function of them all would take a closure
+    // for what a turn puts, and say by a clause over `F.post` what that is, longer than a loop.
     #[tactic(auto, using(crate::proofs::Laws::lines))]
     fn put_column<const N: usize>(&self, text: &mut ArrayVec<u8, N>, b: usize, k: usize)
         requires room { array_vec_len text.old + length (column_lines self.now.bands self.now.flags.now self.now.strengths.now b k) ≤ N }

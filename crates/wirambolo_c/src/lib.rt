@@ -13,10 +13,11 @@ use phonon::{
 
 // ---- choices
 
-// The answer to a call with a choice that is not known.
+// The answer to a call with a choice that is not known: C's answers are bytes, and this one is no refusal's number.
 const UNKNOWN: u8 = 255;
 
-// The choice of a number: that place of a list of them.
+// The choice of a number, as C hands it over: that place of a list of them. No TryFrom: it would stand in the crates of the enums, which do not know
+// C's numbers.
 fn choice<T: Copy, const N: usize>(number: u8, of: [T; N]) -> Option<T>
     ensures { result ≡ slice_get of number }
 {
@@ -67,7 +68,8 @@ fn choices_of(anchoring: u8, form: u8, symmetry: u8) -> Option<Choices>
 }
 
 // ---- the doors: C hands over each slice by itself, so that each door and its contract name where it belongs. Three doors make the same tables:
-// one function of their 23 parameters would be handed them by position, where here each stands beside its field's name.
+// one function of their 23 parameters would be handed them by position, where here each stands beside its field's name. So does each part of a bath
+// and of integration weights, which two doors make.
 
 // One triplet.
 #[unsafe(no_mangle)]
