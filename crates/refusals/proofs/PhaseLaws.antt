@@ -84,9 +84,6 @@ module _ (P : ℕ) (vectors : List Float) (multiplicity p2s : List ℤ) (i : ℕ
       → (2 * (index (int p2s i) * P) + 2 ≤ length multiplicity) × (3 * anchor_vector P multiplicity p2s i + 3 ≤ length vectors)
   anchored h l = anchor_in P vectors multiplicity p2s i h.ranged (omega (arith, l)) (index_below _ _ h.some h.anchors i (omega (arith, h.atoms, l)))
 
-  pub entry_in : {a : ℕ} → Anchored vectors multiplicity p2s P → i < P → a ≡ index (int p2s i) → 2 * (a * P) + 2 ≤ length multiplicity
-  entry_in h l e = rw e (anchored h l).0
-
 pub atoms_are : (P : ℕ) (vectors : List Float) (multiplicity p2s : List ℤ) (q : Legs (List Float))
     → every_below (atom_fine P vectors multiplicity p2s q) P ≡ pre_phases_ok P vectors multiplicity p2s q
 unfolding pre_phases_ok
