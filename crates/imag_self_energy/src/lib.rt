@@ -23,8 +23,8 @@ use common::float_of;
 use phonon::{Band, Bath, IntegrationWeights, Refusal, TotalsMeasures, Weights};
 use planes::{index_of, part_of};
 
-// The most bands of a leg, and the places of a block of so many; and the same where few bands have lists of their own:
-// the lists and factors are cleared when they are made, which of MOST_BANDS would take as long as the sum of a few.
+// The most bands of a leg, and the places of a block of so many; and the same where few bands have lists of their own: lists and factors are cleared
+// when they are made, and with those of MOST_BANDS totals alone of 9 bands take 2.4 to 3.7 us and not 1.9 to 2.7.
 const MOST_BANDS: usize = 24;
 
 const MOST_PLACES: usize = MOST_BANDS * MOST_BANDS;
@@ -33,8 +33,8 @@ const FEW_BANDS: usize = 12;
 
 const FEW_PLACES: usize = FEW_BANDS * FEW_BANDS;
 
-// The most bands that are summed with no lists. They have arrays of their own: to fill those of MOST_BANDS takes 6 % of
-// the time of totals alone with one atom. An ArrayVec fills its unused places as well.
+// The most bands that are summed with no lists. They have arrays of their own: with those of MOST_BANDS in their place totals alone of one atom take
+// 195 ns and not 183 at temperature 0.0, 412 and not 400 above it. An ArrayVec fills its unused places as well.
 const PLAIN_BANDS: usize = 6;
 
 // What an array of bands holds before it is filled. An occupation of -1.0 is document 01's mark of a band that has none.

@@ -1,4 +1,8 @@
 // What a case changes in cell U, the result that document 01 names, and the buffers that the doors are lent.
+ghost use Rattle.std.specs.Prelude.{◌≡◌, replicate};
+ghost use Rattle.std.specs.Float.Ieee.{neg};
+ghost use Rattle.phonon.specs.Number.{f1};
+
 use phonon::{Anchoring, Refusal, Symmetry};
 
 // That F is at most 3 is no ghost field: with one the arms of the table join before their promise, which is then no longer
@@ -46,7 +50,9 @@ pub struct Buffers {
 
 impl Buffers {
     // Every number -1.0.
-    pub fn new() -> Self {
+    pub fn new() -> Self
+        ensures { (result.strengths ≡ replicate 54 (neg f1)) × (result.totals ≡ replicate 3 (neg f1)) × (result.work ≡ replicate 205 (neg f1)) }
+    {
         Buffers {
             strengths: [-1.0; 54],
             totals: [-1.0; 3],
