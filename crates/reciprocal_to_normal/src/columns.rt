@@ -68,8 +68,8 @@ impl<const N: usize> Sums<N> {
     }
 }
 
-// Partial sum p of the columns from j on: rows p, p + 4, p + 8, .. The first is found outside the loop, whose long rows then take
-// a sixth less time.
+// Partial sum p of the columns from j on: rows p, p + 4, p + 8, .. The place of the first is worked outside the loop, and no
+// other anew.
 #[inline(always)]
 fn lane_columns<const N: usize>(
     w: &[f64],
