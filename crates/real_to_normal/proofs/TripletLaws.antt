@@ -43,7 +43,7 @@ module _ (t : Tables) (g : Legs ℕ) (q : Legs (List Float)) {l : List Float} (h
 
   -- both ways of working leave the slots' values
   module _ (flags : List ℕ) (before : List Float) (p : 1 ≤ P) (w : all_within (pos 0) (pos (3 * P - 1)) t.bands ≡ true) where
-    slot_phonons_lem : (m : ℕ) → m < slot_count t → slot_in l P t.phonons.frequencies g t.bands 0 1 2 m ≡ slot_phonons P (inverse_roots P t.crystal.masses) t.phonons g t.bands m
+    pub slot_phonons_lem : (m : ℕ) → m < slot_count t → slot_in l P t.phonons.frequencies g t.bands 0 1 2 m ≡ slot_phonons P (inverse_roots P t.crystal.masses) t.phonons g t.bands m
     slot_phonons_lem m k =
         let b = slot_bands P t.bands m p w k in
         let u = leg_phonon 0 _ (omega arith) (b 0) in

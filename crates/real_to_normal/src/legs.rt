@@ -33,11 +33,13 @@ fn scale_legs(w: &mut [f64], at: Legs<usize>, eigenvectors: &[f64], np: usize, g
 
 // All that the legs give: inverse roots, scaled eigenvectors, phase factors.
 pub fn prepare(w: &mut [f64], p: &Points<'_>)
-    requires { (p.now.tables.now.measures.atoms ≤ 1000)
+    requires sizes { (p.now.tables.now.measures.atoms ≤ 1000)
         × (p.now.tables.now.measures.supercell ≤ 1000)
         × (legs_end p.now.tables.now.measures ≤ length w.old)
+        × (p.now.tables.now.measures.atoms ≤ length p.now.tables.now.crystal.masses.now)
         × Ranged p.now.tables.now.crystal.vectors.now p.now.tables.now.crystal.multiplicity.now
         (p.now.tables.now.measures.supercell * p.now.tables.now.measures.atoms) }
+    requires points { Eigenvectors (3 * p.now.tables.now.measures.atoms) p.now.tables.now.phonons.eigenvectors.now p.now.g }
     ensures { Prepared w.new (tables_of p.now.tables.now) p.now.g p.now.q
         × SameOutside w.old w.new 0 (legs_end p.now.tables.now.measures) }
 {

@@ -1,5 +1,5 @@
 // One leg order of one triplet: the legs picked in this order, and the force constants in reciprocal space.
-ghost use Rattle.std.specs.Prelude.{◌≡◌, ◌≤◌, length, get_or};
+ghost use Rattle.std.specs.Prelude.{◌≡◌, ◌*◌, ◌≤◌, length, get_or};
 ghost use Rattle.phonon.specs.Handed.{tables_of};
 ghost use Rattle.phonon.specs.Sets.{part};
 ghost use Rattle.phonon.specs.Interaction.{picked};
@@ -64,7 +64,8 @@ pub fn order_constants(w: &mut [f64], p: &Points<'_>, order: [usize; 3])
 
 // What the strengths are worked from, with the legs in this order.
 pub fn operands_of<'a>(p: &Points<'a>, order: [usize; 3]) -> Operands<'a>
-    requires { Shapes (tables_of p.now.tables.now) × Order order }
+    requires sizes { (1 ≤ p.now.tables.now.measures.atoms) × Shapes (tables_of p.now.tables.now) × Order order }
+    requires points { Frequencies (3 * p.now.tables.now.measures.atoms) p.now.tables.now.phonons.frequencies.now p.now.g }
     ensures { OperandsOf (tables_of p.now.tables.now) (picked p.now.g (get_or order 0 0) (get_or order 1 0) (get_or order 2 0))
         (get_or order 0 0) (get_or order 1 0) (get_or order 2 0) result }
 {

@@ -4,7 +4,7 @@ ghost use Rattle.phonon.specs.Number.{at, flagged, table};
 ghost use Rattle.phonon.specs.Handed.{tables_of};
 ghost use Rattle.phonon.specs.ReciprocalToNormal.{strength};
 ghost use Rattle.planes.specs.Region.{SameOutside};
-ghost use Rattle.real_to_normal.specs.Work.{legs_end, work_end, slot_count, Shapes, Slots, Factored, reciprocal_of, slot_in};
+ghost use Rattle.real_to_normal.specs.Work.{legs_end, work_end, slot_count, Shapes, Frequencies, Slots, Factored, reciprocal_of, slot_in};
 
 use crate::order::{operands_of, order_constants};
 use crate::points::Points;
@@ -12,7 +12,10 @@ use reciprocal_to_normal::slots::reciprocal_to_normal_squared;
 
 // Writes the slots that are not flagged. The legs have been prepared in w.
 pub fn real_to_normal(out: &mut [f64], flags: &[u8], w: &mut [f64], p: &Points<'_>)
-    requires sizes { Shapes (tables_of p.now.tables.now) × (work_end p.now.tables.now.measures ≤ length w.old) }
+    requires sizes { (1 ≤ p.now.tables.now.measures.atoms)
+        × Shapes (tables_of p.now.tables.now)
+        × (work_end p.now.tables.now.measures ≤ length w.old) }
+    requires points { Frequencies (3 * p.now.tables.now.measures.atoms) p.now.tables.now.phonons.frequencies.now p.now.g }
     requires factors { Factored w.old (tables_of p.now.tables.now) p.now.q }
     requires slots { Slots (tables_of p.now.tables.now) flags.now out.old }
     ensures { (out.new ≡ table (slot_count (tables_of p.now.tables.now))

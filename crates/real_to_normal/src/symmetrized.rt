@@ -5,7 +5,7 @@ ghost use Rattle.phonon.specs.Handed.{tables_of};
 ghost use Rattle.phonon.specs.Interaction.{picked};
 ghost use Rattle.phonon.specs.ReciprocalToNormal.{strength};
 ghost use Rattle.planes.specs.Region.{SameOutside};
-ghost use Rattle.real_to_normal.specs.Work.{legs_end, work_end, slot_count, Shapes, Slots, Order, Factored, reciprocal_of, slot_in, sixth_of};
+ghost use Rattle.real_to_normal.specs.Work.{legs_end, work_end, slot_count, Shapes, Frequencies, Slots, Order, Factored, reciprocal_of, slot_in, sixth_of};
 
 use crate::layout::Layout;
 use crate::order::{operands_of, order_constants};
@@ -17,7 +17,10 @@ use reciprocal_to_normal::listing::full_strengths;
 // Adds to each slot that is not flagged a sixth of its strength with the legs in this order. The legs have been
 // prepared in w.
 fn add_order(out: &mut [f64], flags: &[u8], w: &mut [f64], p: &Points<'_>, order: [usize; 3])
-    requires sizes { Shapes (tables_of p.now.tables.now) × (work_end p.now.tables.now.measures ≤ length w.old) }
+    requires sizes { (1 ≤ p.now.tables.now.measures.atoms)
+        × Shapes (tables_of p.now.tables.now)
+        × (work_end p.now.tables.now.measures ≤ length w.old) }
+    requires points { Frequencies (3 * p.now.tables.now.measures.atoms) p.now.tables.now.phonons.frequencies.now p.now.g }
     requires factors { Factored w.old (tables_of p.now.tables.now) p.now.q }
     requires slots { Slots (tables_of p.now.tables.now) flags.now out.old }
     requires legs { Order order }
@@ -44,7 +47,10 @@ fn add_order(out: &mut [f64], flags: &[u8], w: &mut [f64], p: &Points<'_>, order
 // All slots 0.0, and then to each that is not flagged a sixth of its strength in each of the six orders, in turn: by its number, as the
 // definition counts them, since their table stays with planes.
 pub fn real_to_normal_sym_q(out: &mut [f64], flags: &[u8], w: &mut [f64], p: &Points<'_>)
-    requires sizes { Shapes (tables_of p.now.tables.now) × (work_end p.now.tables.now.measures ≤ length w.old) }
+    requires sizes { (1 ≤ p.now.tables.now.measures.atoms)
+        × Shapes (tables_of p.now.tables.now)
+        × (work_end p.now.tables.now.measures ≤ length w.old) }
+    requires points { Frequencies (3 * p.now.tables.now.measures.atoms) p.now.tables.now.phonons.frequencies.now p.now.g }
     requires factors { Factored w.old (tables_of p.now.tables.now) p.now.q }
     requires slots { Slots (tables_of p.now.tables.now) flags.now out.old }
     ensures { (out.new ≡ table (slot_count (tables_of p.now.tables.now))

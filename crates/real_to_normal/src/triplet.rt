@@ -8,7 +8,7 @@ ghost use Rattle.phonon.specs.Refusal.{triplet_refusal};
 ghost use Rattle.phonon.specs.Doors.{cleared};
 ghost use Rattle.planes.specs.Region.{SameOutside};
 ghost use Rattle.real_to_reciprocal.specs.Shape.{Ranged};
-ghost use Rattle.real_to_normal.specs.Work.{work_end, slot_count, Shapes, Slots, reciprocal_of, slot_phonons, slot_value};
+ghost use Rattle.real_to_normal.specs.Work.{work_end, slot_count, Shapes, Frequencies, Eigenvectors, Slots, reciprocal_of, slot_phonons, slot_value};
 
 use crate::legs::prepare;
 use crate::plain::real_to_normal;
@@ -20,10 +20,14 @@ use real_to_reciprocal::phases::compute_q_vec;
 
 // The slots of one triplet.
 fn slots_of(strengths: &mut [f64], flags: &[u8], work: &mut [f64], p: &Points<'_>)
-    requires sizes { Shapes (tables_of p.now.tables.now)
+    requires sizes { (1 ≤ p.now.tables.now.measures.atoms)
+        × Shapes (tables_of p.now.tables.now)
         × (work_end p.now.tables.now.measures ≤ length work.old)
+        × (p.now.tables.now.measures.atoms ≤ length p.now.tables.now.crystal.masses.now)
         × Ranged p.now.tables.now.crystal.vectors.now p.now.tables.now.crystal.multiplicity.now
         (p.now.tables.now.measures.supercell * p.now.tables.now.measures.atoms) }
+    requires points { Frequencies (3 * p.now.tables.now.measures.atoms) p.now.tables.now.phonons.frequencies.now p.now.g
+        × Eigenvectors (3 * p.now.tables.now.measures.atoms) p.now.tables.now.phonons.eigenvectors.now p.now.g }
     requires slots { Slots (tables_of p.now.tables.now) flags.now strengths.old }
     ensures { (strengths.new ≡ table (slot_count (tables_of p.now.tables.now))
         (λ m. slot_value p.now.tables.now.symmetry (reciprocal_of (tables_of p.now.tables.now)) p.now.tables.now.measures.atoms p.now.q

@@ -10,7 +10,7 @@ pub returns : goal.returns
 returns c =
     let a = c.args in
     let t = tables_of a.p.now.tables.now in
-    let room : a.p.now.tables.now.measures.atoms ≤ length a.w.now = omega (arith, c.requires) in
+    let room : a.p.now.tables.now.measures.atoms ≤ length a.w.now = omega (arith, c.requires.sizes) in
     let r = c.inverse_roots.ensures in
     let s = c.scale_legs.ensures in
     let k = rw c.of-at.ensures.1 at c.phase_factors.ensures in

@@ -14,7 +14,7 @@ returns c =
     let o = c.order_constants.ensures in
     let e = c.operands_of-o.ensures in
     let r = rw (e.atoms, e.constants, e.scratch, e.cutoff) at c.reciprocal_to_normal_squared.ensures in (
-      plain_is m.atoms m.supercell t.phonons.frequencies p.g o.1 (columns_pre m.atoms m.supercell) t.bands a.flags.now a.out.now _ t.settings.cutoff (constants_at m.atoms m.supercell) p.some
+      plain_is m.atoms m.supercell t.phonons.frequencies p.g o.1 (columns_pre m.atoms m.supercell) t.bands a.flags.now a.out.now _ t.settings.cutoff (constants_at m.atoms m.supercell) c.requires.sizes.0
           c.requires.slots.bands o.0 e.legs e.freqs0 e.freqs1 e.freqs2 r.0,
       outside_scratch m.atoms m.supercell o.1 r.1,
     )

@@ -19,6 +19,6 @@ returns c =
     let s = rw (e.atoms, e.constants, e.scratch, e.cutoff, l) at c.full_strengths.ensures in
     let r = rw (e.atoms, l) at c.gather_sixth.ensures in (
       order_gathered m.atoms m.supercell t.phonons.frequencies p.g o.1 (columns_pre m.atoms m.supercell) a.order t.bands a.flags.now a.out.now _ t.settings.cutoff (constants_at m.atoms m.supercell)
-          (scratch_at m.atoms m.supercell) (listing_at m.atoms m.supercell) p.some c.requires.slots.bands o.0 c.requires.legs refl e.legs refl e.freqs0 e.freqs1 e.freqs2 s r,
+          (scratch_at m.atoms m.supercell) (listing_at m.atoms m.supercell) c.requires.sizes.0 c.requires.slots.bands o.0 c.requires.legs refl e.legs refl e.freqs0 e.freqs1 e.freqs2 s r,
       outside_listing m.atoms m.supercell o.1 (outside_above s),
     )

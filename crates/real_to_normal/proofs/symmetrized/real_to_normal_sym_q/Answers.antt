@@ -16,7 +16,7 @@ loop-o-init c =
     let a = c.args in
     let p = c.requires in (
       omega arith,
-      c.fill.ensures.after (λ y e. e) ∙ six_none (tables_of a.p.now.tables.now) a.p.now.q a.w.now a.p.now.g a.flags.now a.p.now.some p.slots.bands p.slots.strengths,
+      c.fill.ensures.after (λ y e. e) ∙ six_none (tables_of a.p.now.tables.now) a.p.now.q a.w.now a.p.now.g a.flags.now p.sizes.0 p.slots.bands p.slots.strengths,
       outside_none _ _ _,
     )
 
@@ -44,6 +44,6 @@ loop-o-preserved c =
     let less : loop.o < 6 = omega (arith, c.loop-o-test.true) in
     let r = c.add_order.ensures in (
       omega arith,
-      six_turn (tables_of a.p.now.tables.now) a.p.now.q a.w.now a.p.now.g a.flags.now a.p.now.some p.slots.bands loop.o less loop.invariant.2 c.order_at.ensures loop.invariant.1 r.0,
+      six_turn (tables_of a.p.now.tables.now) a.p.now.q a.w.now a.p.now.g a.flags.now p.sizes.0 p.slots.bands loop.o less loop.invariant.2 c.order_at.ensures loop.invariant.1 r.0,
       outside_then loop.invariant.2 r.1,
     )

@@ -11,7 +11,7 @@ returns-in-Off c =
     let t = tables_of a.p.now.tables.now in
     let p = c.requires in
     let r = c.real_to_normal.ensures in
-    (off_values t a.p.now.g a.p.now.q prep.0 a.flags.now a.strengths.now a.p.now.some p.slots.bands t.symmetry c.in-Off.is r.0, outside_legs t.measures.atoms t.measures.supercell prep.1 r.1)
+    (off_values t a.p.now.g a.p.now.q prep.0 a.flags.now a.strengths.now p.sizes.0 p.slots.bands t.symmetry c.in-Off.is r.0, outside_legs t.measures.atoms t.measures.supercell prep.1 r.1)
 
 pub returns-in-Symmetrized : goal.returns-in-Symmetrized
 returns-in-Symmetrized c =
@@ -20,4 +20,4 @@ returns-in-Symmetrized c =
     let t = tables_of a.p.now.tables.now in
     let p = c.requires in
     let r = c.real_to_normal_sym_q.ensures in
-    (six_values t a.p.now.g a.p.now.q prep.0 a.flags.now a.strengths.now a.p.now.some p.slots.bands t.symmetry c.in-Symmetrized.is r.0, outside_legs t.measures.atoms t.measures.supercell prep.1 r.1)
+    (six_values t a.p.now.g a.p.now.q prep.0 a.flags.now a.strengths.now p.sizes.0 p.slots.bands t.symmetry c.in-Symmetrized.is r.0, outside_legs t.measures.atoms t.measures.supercell prep.1 r.1)

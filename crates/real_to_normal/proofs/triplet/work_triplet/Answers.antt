@@ -38,15 +38,17 @@ compute_q_vec-requires-3 c =
     rw (point_is {z = int c.args.triplet 2} (search rules) c.index_of-3.ensures) (address_fits _ c.requires 2)
 
 pub slots_of-requires-clause-sizes : goal.slots_of-requires-clause-sizes
-slots_of-requires-clause-sizes c = (shapes _ c.requires, room _ c.requires, ranged _ c.requires)
+slots_of-requires-clause-sizes c =
+    let e = c.requires in
+    ((facts _ e).measured.atoms, shapes _ e, room _ e, masses_fit _ e, ranged _ e)
 
-pub invariant_of-slots_of : goal.invariant_of-slots_of
-invariant_of-slots_of c =
+pub slots_of-requires-clause-points : goal.slots_of-requires-clause-points
+slots_of-requires-clause-points c =
     let e = c.requires in
     let p0 = point_is {z = int c.args.triplet 0} (search rules) c.index_of.ensures in
     let p1 = point_is {z = int c.args.triplet 1} (search rules) c.index_of-2.ensures in
     let p2 = point_is {z = int c.args.triplet 2} (search rules) c.index_of-3.ensures in
-    record { some = (facts _ e).measured.atoms; masses = masses_fit _ e; frequencies = frequencies_fit _ e p0 p1 p2; eigenvectors = eigenvectors_fit _ e p0 p1 p2 }
+    (frequencies_fit _ e p0 p1 p2, eigenvectors_fit _ e p0 p1 p2)
 
 pub slots_of-requires-clause-slots : goal.slots_of-requires-clause-slots
 slots_of-requires-clause-slots c = slots _ c.requires
