@@ -12,6 +12,7 @@ use crate::supercell::Supercell;
 use common::{cmplx_add, cmplx_mul};
 use phonon::{Anchoring, Complex, Leg, Legs};
 use planes::{get_split, put_split};
+use std::convert::AsSlice;
 
 // The sum of three numbers from 0.0 on, over 3.0.
 #[tactic(auto, unfolding(phonon::specs::RealToReciprocal::over3))]
@@ -135,11 +136,11 @@ impl FactorPlaces {
 // Writes to t the sums of one leg for three atoms, times the pre-factor of the first. Laid into its callers, so that each
 // leg has its own loop. To a lent t: with a block by value the door took 1.2 times as long at one atom.
 #[inline(always)]
-fn leg_block<const N: usize>(
+fn leg_block<T: AsSlice<u16>>(
     t: &mut [f64; 54],
     w: &[f64],
     f: FactorPlaces,
-    cell: &Supercell<'_, N>,
+    cell: &Supercell<'_, T>,
     leg: Leg,
     atoms: Legs<usize>,
 )
@@ -157,11 +158,11 @@ fn leg_block<const N: usize>(
 }
 
 // Writes the block of three atoms to t, anchored at each in turn and averaged: the second and the third leg take the first's place.
-fn r0_average_block<const N: usize>(
+fn r0_average_block<T: AsSlice<u16>>(
     t: &mut [f64; 54],
     w: &[f64],
     f: FactorPlaces,
-    cell: &Supercell<'_, N>,
+    cell: &Supercell<'_, T>,
     atoms: Legs<usize>,
 )
     requires { FactorsBelow (length w.now) f cell.now.np cell.now.ns × AtomsBelow cell.now.np atoms }
@@ -195,11 +196,11 @@ fn r0_average_block<const N: usize>(
 }
 
 // Writes the block of three atoms to t. Anchored plainly, it is the sums of a leg alone.
-pub fn block<const N: usize>(
+pub fn block<T: AsSlice<u16>>(
     t: &mut [f64; 54],
     w: &[f64],
     f: FactorPlaces,
-    cell: &Supercell<'_, N>,
+    cell: &Supercell<'_, T>,
     anchoring: Anchoring,
     atoms: Legs<usize>,
 )

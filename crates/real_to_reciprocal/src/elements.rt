@@ -13,6 +13,7 @@ use crate::supercell::Supercell;
 use common::{cmplx_add, cmplx_mul, cmplx_scale};
 use phonon::{Complex, Forces, Form, Leg, Legs};
 use planes::{get_split, index_at};
+use std::convert::AsSlice;
 
 // The row of the force constants for atom i.
 fn row_of(form: Form, p2s: &[i64], i: usize) -> usize
@@ -184,11 +185,11 @@ fn add_pair(
 // The 27 sums for three atoms, real parts first. Phase factors are np * ns numbers in planes of w: those of the second
 // atom's leg from f1 on, those of the third's from f2 on.
 #[inline(always)]
-pub fn real_to_reciprocal_elements<const N: usize>(
+pub fn real_to_reciprocal_elements<T: AsSlice<u16>>(
     w: &[f64],
     f1: usize,
     f2: usize,
-    cell: &Supercell<'_, N>,
+    cell: &Supercell<'_, T>,
     leg: Leg,
     atoms: Legs<usize>,
 ) -> [f64; 54]

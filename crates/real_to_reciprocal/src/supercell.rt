@@ -1,5 +1,5 @@
 // The force constants, with the copies of each atom in the supercell.
-ghost use Rattle.std.specs.Prelude.{◌≡◌, ◌+◌, ◌*◌, ◌^◌, ◌<◌, ◌≤◌, length, MatchOption};
+ghost use Rattle.std.specs.Prelude.{◌≡◌, ⊤, ◌+◌, ◌<◌, ◌≤◌, length, MatchOption};
 ghost use Rattle.phonon.specs.Number.{index, int};
 ghost use Rattle.phonon.specs.Handed.{forces_of};
 ghost use Rattle.real_to_reciprocal.specs.Shape.{Shaped};
@@ -7,6 +7,8 @@ ghost use Rattle.real_to_reciprocal.specs.Copies.{FirstCopies, LaterCopies, Next
 
 use phonon::Forces;
 use planes::{index_at, index_of};
+use std::alloc::AllocError;
+use std::convert::AsSlice;
 
 // The first copy of supercell atom y from `from` on.
 fn next_copy(s2p: &[i64], y: usize, from: usize) -> Option<usize>
@@ -51,28 +53,39 @@ fn copy_of(entry: u16, ns: usize) -> Option<usize>
 }
 
 // The force constants of np atoms and ns supercell atoms, with the first copy of each atom, and after each supercell atom the
-// next copy of the same atom. The tables are lent, as arrays: with slices the door took 1.26 times as long at one and two atoms. Of an array's length `long`
-// says no more than that it has a place for each, and that it is an array.
-#[derive(Clone, Copy)]
-pub struct Supercell<'a, const N: usize> {
+// next copy of the same atom. The tables are lent, each of its own length, which may be known when the program is built or only
+// when it runs: `real_to_reciprocal` lends arrays, as with slices the door took 1.26 times as long at one and two atoms.
+pub struct Supercell<'a, T: AsSlice<u16>> {
     pub forces: Forces<'a>,
     pub np: usize,
     pub ns: usize,
-    pub first: &'a [u16; N],
-    pub later: &'a [u16; N],
-    ghost long: { (np ≤ N) × (ns ≤ N) × (N * 2 < 2 ^ 63) },
+    pub first: &'a T,
+    pub later: &'a T,
     ghost shaped: { Shaped np ns (forces_of forces) },
-    ghost first_are: { FirstCopies np ns forces.p2s.now forces.s2p.now first.now },
-    ghost later_are: { LaterCopies ns forces.s2p.now later.now },
+    ghost first_are: { FirstCopies np ns forces.p2s.now forces.s2p.now (T.items first.now) },
+    ghost later_are: { LaterCopies ns forces.s2p.now (T.items later.now) },
 }
 
-impl<const N: usize> Supercell<'_, N> {
+// By hand: Clone is not derived of a type with a type parameter and ghost fields, and a derived Copy would ask T to be Copy.
+impl<T: AsSlice<u16>> Copy for Supercell<'_, T> {}
+
+impl<T: AsSlice<u16>> Clone for Supercell<'_, T> {
+    ghost is_clone = { λ x y. y ≡ x };
+
+    ghost is_infallible = { λ _. ⊤ };
+
+    fn clone(&self) -> Result<Self, AllocError> {
+        Ok(*self)
+    }
+}
+
+impl<T: AsSlice<u16>> Supercell<'_, T> {
     // The first copy of atom a.
     pub fn first_copy(&self, a: usize) -> Option<usize>
         requires { a < self.now.np }
         ensures { NextCopy self.now.forces.s2p.now self.now.ns (index (int self.now.forces.p2s.now a)) 0 result }
     {
-        copy_of(self.first[a], self.ns)
+        copy_of(self.first.as_slice()[a], self.ns)
     }
 
     // The next copy, after supercell atom k, of the same atom.
@@ -80,6 +93,6 @@ impl<const N: usize> Supercell<'_, N> {
         requires { k < self.now.ns }
         ensures { NextCopy self.now.forces.s2p.now self.now.ns (index (int self.now.forces.s2p.now k)) (k + 1) result }
     {
-        copy_of(self.later[k], self.ns)
+        copy_of(self.later.as_slice()[k], self.ns)
     }
 }
