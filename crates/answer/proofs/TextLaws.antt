@@ -79,11 +79,9 @@ module _ (s : List ℕ) where
       told : r ≡ read_of (words_of s)
       told = rw e at q
 
-      pub answer_12 : (x : Refusal) → r ≡ Err x → refused_line (number x) ≡ answer_text s
+      pub answer_12 : (x : Refusal) → r ≡ Err x → refused_line 12 ≡ answer_text s
       unfolding answer_text file_text
-      answer_12 x g =
-          let t = read_wrong (words_of s) x (sym g ∙ told) in
-          rw (t.0, file_12 s a b t.1) refl
+      answer_12 x g = rw (file_12 s a b (read_wrong (words_of s) x (sym g ∙ told)).1) refl
 
       pub answer_read : (h : Heading) → r ≡ Ok h → set_text (start_of (columns_of ws) h) ≡ answer_text s
       unfolding answer_text file_text

@@ -1,7 +1,7 @@
 // What `key` prints for any file: the carton is read, worked by the joined door, and put down as text.
 #![tactic(auto)]
 
-ghost use Rattle.std.specs.Prelude.{◌≡◌, true, ◌*◌, ◌/◌, ◌≤◌, length};
+ghost use Rattle.std.specs.Prelude.{◌≡◌, true, ◌*◌, ◌/◌, ◌≤◌, [], length};
 ghost use Rattle.phonon.specs.Sets.{slots};
 ghost use Rattle.carton.specs.Blocks.{size_ok, blocks_ok};
 ghost use Rattle.carton.specs.Fitted.{Fitted};
@@ -25,19 +25,22 @@ pub const MOST_INPUT: usize = 49153;
 // Room for the lines of any file.
 pub type Text = ArrayVec<u8, 25600>;
 
-// The lines of a carton's set. The columns, which are only read, are one struct; the buffers stand side by side, as the door takes them.
+// The lines of a carton's set. The columns, which are only read, are one struct; the buffers stand side by side, as the door takes them. The text is
+// lent, here and below: as a result it would be copied at each step on its way up.
 fn set_lines(
     h: &Heading,
     columns: &Columns<'_>,
     strengths: &mut [f64],
     totals: &mut [f64],
     work: &mut [f64],
-) -> Result<Text, Refusal>
+    text: &mut Text,
+) -> Result<(), Refusal>
     requires { Fitted h.now (length columns.now.floats.now)
         × (strengths.old ≡ zeros (slots h.now.measures))
         × (totals.old ≡ zeros h.now.measures.first)
-        × (work.old ≡ zeros most_work) }
-    ensures { printed result ≡ set_text (start_of (lists_of columns.now) h.now) }
+        × (work.old ≡ zeros most_work)
+        × (text.old.items ≡ []) }
+    ensures { printed result text.new ≡ set_text (start_of (lists_of columns.now) h.now) }
 {
     run_door(h, columns, strengths, totals, work)?;
     let slots = Slots {
@@ -46,15 +49,14 @@ fn set_lines(
         flags: &columns.bytes[h.places.flags..h.places.constants],
         strengths,
     };
-    let mut text = Text::new();
-    put_accepted(&mut text, &slots, totals);
-    Ok(text)
+    put_accepted(text, &slots, totals);
+    Ok(())
 }
 
 // The lines of a carton whose words are read; columns and buffers are arrays of its own.
-fn heading_lines(h: &Heading, words: &[u64]) -> Result<Text, Refusal>
-    requires { Fitted h.now (length words.now) }
-    ensures { printed result ≡ set_text (start_of (columns_of words.now) h.now) }
+fn heading_lines(h: &Heading, words: &[u64], text: &mut Text) -> Result<(), Refusal>
+    requires { Fitted h.now (length words.now) × (text.old.items ≡ []) }
+    ensures { printed result text.new ≡ set_text (start_of (columns_of words.now) h.now) }
 {
     let n = words.len();
     let mut floats = array::repeat::<f64, 6048>(0.0);
@@ -79,41 +81,53 @@ fn heading_lines(h: &Heading, words: &[u64]) -> Result<Text, Refusal>
         &mut strengths[..slots],
         &mut totals[..first],
         &mut work,
+        text,
     )
 }
 
 // The lines of a file whose size and blocks are right; words has a place for each of its words.
-fn blocks_lines(input: &[u8], words: &mut [u64]) -> Result<Text, Refusal>
+fn blocks_lines(input: &[u8], words: &mut [u64], text: &mut Text) -> Result<(), Refusal>
     requires { (size_ok input.now ≡ true)
         × (blocks_ok input.now ≡ true)
-        × (length words.old ≡ 63 * (length input.now / 512)) }
-    ensures { printed result ≡ answer_text input.now }
+        × (length words.old ≡ 63 * (length input.now / 512))
+        × (text.old.items ≡ []) }
+    ensures { printed result text.new ≡ answer_text input.now }
 {
     read_words(input, words);
-    let h = heading_of(words)?;
-    heading_lines(&h, words)
+    let Ok(h) = heading_of(words) else {
+        return Err(Refusal::Heading);
+    };
+    heading_lines(&h, words, text)
 }
 
-fn lines_of(input: &[u8]) -> Result<Text, Refusal>
-    ensures { printed result ≡ answer_text input.now }
+fn lines_of(input: &[u8], text: &mut Text) -> Result<(), Refusal>
+    requires { text.old.items ≡ [] }
+    ensures { printed result text.new ≡ answer_text input.now }
 {
     require(carton::size_ok(input), Refusal::File)?;
     require(carton::blocks_ok(input), Refusal::Block)?;
     let mut words = array::repeat::<u64, 6048>(0);
     let n = 63 * (input.len() / 512);
-    blocks_lines(input, &mut words[..n])
+    blocks_lines(input, &mut words[..n], text)
 }
 
-// The text for the bytes of any file.
+// The text for the bytes of any file, in place of what the lent text holds. A refusal's line stands alone.
+pub fn put_answer(input: &[u8], text: &mut Text)
+    ensures { text.new.items ≡ answer_text input.now }
+{
+    text.clear();
+    let answered = lines_of(input, text);
+    if let Err(refusal) = answered {
+        text.clear();
+        put_refused(text, u8::from(refusal));
+    }
+}
+
+// The same text by itself.
 pub fn answer(input: &[u8]) -> Text
     ensures { result.items ≡ answer_text input.now }
 {
-    match lines_of(input) {
-        Ok(lines) => lines,
-        Err(refusal) => {
-            let mut text = Text::new();
-            put_refused(&mut text, u8::from(refusal));
-            text
-        }
-    }
+    let mut text = Text::new();
+    put_answer(input, &mut text);
+    text
 }

@@ -32,6 +32,10 @@ module _ {f : ℕ → Float} {l : List Float} where
       go j p (yes q) = get_or-set_other l' k j y nan (λ e. omega arith) ∙ c.done j q
       go j p (no n) = subst (λ (i : ℕ). at (set l' k y) i ≡ f i) (omega arith) (get_or-set_same l' k y nan (omega (arith, c.long)) ∙ e)
 
+  -- the same where the places are counted otherwise
+  pub changed_at : {k m n : ℕ} {l' : List Float} {y : Float} → n ≡ k → m ≡ k + 1 → n < length l → y ≡ f n → Changed f k l l' → Changed f m l (set l' n y)
+  changed_at {k} {m} {n} {l'} {y} p q h e c = subst (λ (j : ℕ). Changed f j l (set l' n y)) (omega (arith, p, q)) (changed_more h e (subst (λ (j : ℕ). Changed f j l l') (sym p) c))
+
   -- all entries: a function of those of x
   pub changed_whole : (g : Float → Float) (x : List Float) {k : ℕ} {l' : List Float} → length l ≡ length x → length x ≤ k → ((j : ℕ) → j < length x → f j ≡ g (at x j)) → Changed f k l l' → l' ≡ map g x
   changed_whole g x {k} {l'} size h e c =

@@ -1,18 +1,13 @@
 -- The numbers between 0 and 709: what their test shows, and the exponential from its parts.
-use Prim.Native.Nat.{ℕ, ◌<◌, ◌≤◌}
-use native.Mathlib.Omega.{arith}
-use mathlib.Core.Path.{◌≡◌, refl, sym, ap, ◌∙◌}
-use mathlib.Core.List.{List, map}
-use lib.ListN.{length}
-use Rattle.std.proofs.lemmas.List.{get_or-map}
+use mathlib.Core.Path.{◌≡◌, refl, sym}
 use mathlib.Core.Bool.{Bool, true, false, not, ◌&&◌, true≢false}
 use lib.IntN.{pos}
-use lib.Ieee.{Float, nan, fin, lt, le}
-use Rattle.phonon.specs.Number.{◌⊗◌, f0, at, whole}
+use lib.Ieee.{Float, fin, lt, le}
+use Rattle.phonon.specs.Number.{◌⊗◌, f0, whole}
+use Rattle.phonon.proofs.Accepted.{and_both}
 use Rattle.phonon.specs.Exp.{exp, by_range, scaled, exp_series, count, remainder}
 use Rattle.funcs.specs.Reducible.{reducible}
 use Rattle.funcs.proofs.Range.{limit}
-use Rattle.funcs.proofs.Changed.{Changed}
 
 pub in_range : (x : Float) → reducible x ≡ true → (lt limit x ≡ false) × (le f0 x ≡ true)
 unfolding reducible
@@ -35,14 +30,6 @@ pub exp_parts : (x p t : Float) → reducible x ≡ true → p ≡ exp_series (r
 unfolding exp by_range scaled
 exp_parts x p t e hp ht = let h = in_range x e in rw (h.0, h.1, hp, ht) refl
 
--- a list of what is left and a list of the powers, of the numbers of x
-abbrev pub rest_at : List Float → ℕ → Float
-rest_at x j = remainder (at x j) (whole (count (at x j)))
-
-abbrev pub power_at : List Float → ℕ → Float
-power_at x j = fin false 1 (pos (count (at x j)))
-
--- the exponential of number j of x, from its parts
-pub part_exp : (x r t p : List Float) {k : ℕ} (j : ℕ) → length x ≤ k → j < length x → reducible (at x j) ≡ true → Changed (rest_at x) k x r → Changed (power_at x) k x t → p ≡ map exp_series r → at p j ⊗ at t j ≡ exp (at x j)
-part_exp x r t p j h l e cr ct ep =
-    exp_parts (at x j) _ _ e (ap (λ q. at q j) ep ∙ get_or-map exp_series r j nan nan (omega (arith, cr.long)) ∙ ap exp_series (cr.done j (omega arith))) (ct.done j (omega arith))
+-- the tests of two numbers, at once
+pub both : (x y : Float) {a b : Bool} → a ≡ reducible x → b ≡ reducible y → (a && b) ≡ true → (reducible x ≡ true) × (reducible y ≡ true)
+both x y p q e = and_both (reducible x) (reducible y) (rw (p, q) at e)

@@ -65,32 +65,37 @@ fn reduce(x: f64) -> Reduced
     }
 }
 
-// Of each r: p = 1, then p = 1 + p * (r / n) for n = 18 down to 1. Of two numbers both divisions are one instruction. The table is lent
-// to the loop, which is laid out straight for it: then each divisor is a known number, and 16, 8, 4, 2 and 1 take a product for a division.
-// It stands alone: laid into its callers, the loop over the numbers stays a loop, and two numbers take 206 instructions in place of 139.
-#[inline(never)]
-fn exp_series<const N: usize>(r: [f64; N]) -> [f64; N]
-    ensures { result ≡ map Exp.exp_series r.entry }
-{
-    let mut p = [1.0; N];
-    for d in &EXP_DIVISORS {
-        // By places, here and below: a zip of two arrays reads no plainer.
-        for k in 0..N {
-            p[k] = 1.0 + p[k] * (r[k] / *d);
-        }
-    }
-    p
+// Two numbers, each in a register of its own. As an array they are stored one by one and read at once as a vector, which waits for both stores.
+#[derive(Clone, Copy)]
+struct Two {
+    one: f64,
+    two: f64,
 }
 
-// The exponential of x. Above 709 it is infinity; below 0, and of a NaN, it is a NaN. Its first case is that of exps, but it cannot be exps of
-// one number: where one of several is out of range, exps calls it for each.
+// Of r and of s: p = 1, then p = 1 + p * (r / n) for n = 18 down to 1. Both divisions are one instruction. The table is read in the
+// loop, which is laid out straight for it: then each divisor is a known number, and 16, 8, 4, 2 and 1 take a product for a division.
+fn exp_series_two(r: f64, s: f64) -> Two
+    ensures { (result.one ≡ Exp.exp_series r) × (result.two ≡ Exp.exp_series s) }
+{
+    let mut p = 1.0;
+    let mut q = 1.0;
+    for i in 0..18 {
+        let d = EXP_DIVISORS[i];
+        p = 1.0 + p * (r / d);
+        q = 1.0 + q * (s / d);
+    }
+    Two { one: p, two: q }
+}
+
+// The exponential of x. Above 709 it is infinity; below 0, and of a NaN, it is a NaN. Its first case is that of exp_two, which
+// calls it for each where one of two is out of range; of two series alike the compiler drops one.
 pub fn exp(x: f64) -> f64
     ensures { result ≡ Exp.exp x }
 {
     if is_reducible(x) {
         let a = reduce(x);
-        let p = exp_series([a.remainder]);
-        return p[0] * a.power;
+        let p = exp_series_two(a.remainder, a.remainder);
+        return p.one * a.power;
     }
     if x > 709.0 {
         return f64::INFINITY;
@@ -98,29 +103,38 @@ pub fn exp(x: f64) -> f64
     f64::NAN
 }
 
-// The exponentials of N numbers, side by side. It is laid into its callers, so that the numbers come in registers: two of them take 38 ns
-// in place of 74.
+// The exponentials of two numbers, side by side.
+fn exp_two(x: f64, y: f64) -> Two
+    ensures { (result.one ≡ Exp.exp x) × (result.two ≡ Exp.exp y) }
+{
+    if is_reducible(x) & is_reducible(y) {
+        let a = reduce(x);
+        let b = reduce(y);
+        let p = exp_series_two(a.remainder, b.remainder);
+        return Two {
+            one: p.one * a.power,
+            two: p.two * b.power,
+        };
+    }
+    Two {
+        one: exp(x),
+        two: exp(y),
+    }
+}
+
+// The exponentials of N numbers, two at a time. It is laid into its callers, so that the numbers come in registers.
 #[inline(always)]
 pub fn exps<const N: usize>(x: [f64; N]) -> [f64; N]
     ensures { result ≡ map Exp.exp x.entry }
 {
-    if !x.iter().all(|y| is_reducible(*y)) {
-        let mut e = x;
-        for y in e.iter_mut() {
-            *y = exp(*y);
-        }
-        return e;
+    let mut e = x;
+    for i in 0..N / 2 {
+        let p = exp_two(x[2 * i], x[2 * i + 1]);
+        e[2 * i] = p.one;
+        e[2 * i + 1] = p.two;
     }
-    let mut remainders = x;
-    let mut powers = x;
-    for k in 0..N {
-        let a = reduce(x[k]);
-        remainders[k] = a.remainder;
-        powers[k] = a.power;
-    }
-    let mut e = exp_series(remainders);
-    for k in 0..N {
-        e[k] = e[k] * powers[k];
+    if N % 2 == 1 {
+        e[N - 1] = exp(x[N - 1]);
     }
     e
 }

@@ -13,19 +13,20 @@ invariant_of-columns c =
     record { ints_alike = lent_length _ _ _ _ c.read_column-2.ensures ∙ sym long; bytes_alike = lent_length _ _ _ _ c.read_column-3.ensures ∙ sym long }
 
 pub slice_bounds-set_lines-end : goal.slice_bounds-set_lines-end
-slice_bounds-set_lines-end c = sym (length-take-le _ _ (omega (arith, few_slots _ _ c.requires, c.repeat-strengths.ensures.items.long)))
+slice_bounds-set_lines-end c = sym (length-take-le _ _ (omega (arith, few_slots _ _ c.requires.0, c.repeat-strengths.ensures.items.long)))
 
 pub slice_bounds-set_lines-end-2 : goal.slice_bounds-set_lines-end-2
-slice_bounds-set_lines-end-2 c = sym (length-take-le _ _ (omega (arith, c.requires.first, c.repeat-totals.ensures.items.long)))
+slice_bounds-set_lines-end-2 c = sym (length-take-le _ _ (omega (arith, c.requires.0.first, c.repeat-totals.ensures.items.long)))
 
 pub set_lines-requires : goal.set_lines-requires
 set_lines-requires c =
-    let f = c.requires in
+    let f = c.requires.0 in
     let slots = slot_count _ _ f in (
       fitted_same _ _ _ (lent_length _ _ _ _ c.read_column.ensures) f,
       zeros_before _ most_words _ _ (repeated _ _ c.repeat-strengths.ensures.items) slots (omega (arith, slots, few_slots _ _ f)),
       zeros_before _ most_words _ _ (repeated _ _ c.repeat-totals.ensures.items) refl f.first,
-      (repeated _ _ c.repeat-work.ensures.items),
+      repeated _ _ c.repeat-work.ensures.items,
+      c.requires.1,
     )
 
 pub returns : goal.returns

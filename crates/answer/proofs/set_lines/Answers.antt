@@ -1,6 +1,5 @@
 -- The door tells what is left; an accepted set has at most three atoms, so that its lines have room.
 use Rattle.std.proofs.Common.{ℕ, ◌≡◌, ◌∙◌, List, length, ap, arith, rules, Result, Err}
-use Rattle.arrayvec.specs.ArrayVec.{ArrayVec}
 use Rattle.phonon.specs.Answers.{number_of}
 use Rattle.phonon.specs.declared.Refusal.{Refusal}
 use Rattle.carton.specs.Tables.{lists_of}
@@ -15,8 +14,8 @@ returns-in_err-run_door c =
     let a = c.args in
     let q = c.requires in
     let x = c.in_err-run_door.field-0.0 in
-    let e : ◌≡◌ {A = Result (ArrayVec ℕ) Refusal} c.from_residual.result (Err x) = search rules in
-    ap printed e ∙ text_refused (lists_of a.columns.now) a.h.now _ _ _ q.1 q.2 q.3 _ c.run_door.ensures x (ap number_of c.in_err-run_door.was)
+    let e : ◌≡◌ {A = Result Unit Refusal} c.from_residual.result (Err x) = search rules in
+    ap (λ r. printed r a.text.now) e ∙ text_refused (lists_of a.columns.now) a.h.now _ _ _ q.1 q.2 q.3 _ c.run_door.ensures x (ap number_of c.in_err-run_door.was)
 
 pub overflow_mul-slots : goal.overflow_mul-slots
 overflow_mul-slots c = record { fits = omega (arith, three_atoms _ _ c.requires.0.work) }
@@ -27,11 +26,11 @@ put_accepted-requires c =
     let q = c.requires in
     let r = c.run_door in
     let f = few (lists_of a.columns.now) a.h.now _ _ _ _ _ q.0 r.ensures (ap number_of c.in_ok-run_door.was) in
-    (omega arith, (f.first, f.bands, r.auto.totals ∙ zeros_length a.h.now.measures.first a.totals.now q.2, omega (arith, ap {A = List ℕ} {B = ℕ} length c.new-text.ensures)))
+    (omega arith, (f.first, f.bands, r.auto.totals ∙ zeros_length a.h.now.measures.first a.totals.now q.2, omega (arith, ap {A = List ℕ} {B = ℕ} length q.4)))
 
 pub returns : goal.returns
 returns c =
     let a = c.args in
     let q = c.requires in
-    alone _ _ _ c.put_accepted.ensures c.new-text.ensures
+    alone _ _ _ c.put_accepted.ensures q.4
     ∙ text_accepted (lists_of a.columns.now) a.h.now _ _ _ q.1 q.2 q.3 _ c.run_door.ensures (ap number_of c.in_ok-run_door.was)

@@ -3,7 +3,7 @@
 use mathlib.Core.Path.{◌≡◌, refl, sym, ap, ◌∙◌}
 use mathlib.Core.Bool.{Bool, true, false}
 use lib.Ieee.{Float, of_bits, of_int, div, lt, le}
-use Rattle.phonon.specs.Number.{f0, at}
+use Rattle.phonon.specs.Number.{f0}
 use Rattle.phonon.specs.Exp.{exp, by_range}
 use Rattle.funcs.proofs.Range.{limit}
 use Rattle.funcs.proofs.Reducible.{exp_parts, below}
@@ -18,7 +18,8 @@ pub returns-then-is_reducible : goal.returns-then-is_reducible
 unfolding of_bits of_int
 returns-then-is_reducible c =
     let r = c.reduce-a.ensures in
-    exp_parts c.args.x _ _ (sym c.is_reducible.ensures ∙ c.if-is_reducible.true) (ap (λ l. at l 0) c.exp_series-p.ensures ∙ rw r.0 refl) r.1
+    let p = c.exp_series_two-p.ensures in
+    exp_parts c.args.x _ _ (sym c.is_reducible.ensures ∙ c.if-is_reducible.true) (p.0 ∙ rw r.0 refl) r.1
 
 pub returns-then-x : goal.returns-then-x
 unfolding by_range div of_bits
