@@ -137,11 +137,11 @@ first_every p n = let e : n + 0 ≡ n = omega arith in rw e at (first_end p n 0 
 
 -- ---- its place, if there is one
 
-failing_here : {p : ℕ → Bool} {n i : ℕ} → Passed p n i → i < n → p i ≡ false → Some i ≡ first_failing p n
+pub failing_here : {p : ℕ → Bool} {n i : ℕ} → Passed p n i → i < n → p i ≡ false → Some i ≡ first_failing p n
 unfolding first_failing
 failing_here {p} {n} {i} w h e = rw (← first_here w h e, ne_eqb i n (λ (z : i ≡ n). omega arith)) refl
 
-failing_none : {p : ℕ → Bool} {n : ℕ} → Passed p n n → None ≡ first_failing p n
+pub failing_none : {p : ℕ → Bool} {n : ℕ} → Passed p n n → None ≡ first_failing p n
 unfolding first_failing
 failing_none {p} {n} w = rw (← first_none w (omega arith), eq-eqb n n refl) refl
 

@@ -106,8 +106,8 @@ pub fn all_positive(s: &[f64]) -> bool
     first_not_positive(s).is_none()
 }
 
-// ---- the multiplicity table: entry n, of a supercell atom and an atom of the primitive cell, has its count at 2 * n and
-// its start behind it
+// ---- the multiplicity table: row j is a supercell atom, column i an atom of the primitive cell, and entry
+// n = j * columns + i has its count at 2 * n and its start behind it
 
 #[tactic(auto, using(crate::proofs::RangeLaws::no_count))]
 fn vector_range(vectors: usize, count: i64, start: i64) -> bool
@@ -127,15 +127,34 @@ fn vector_range(vectors: usize, count: i64, start: i64) -> bool
     first <= vectors - n
 }
 
-// The first entry whose range lies outside the vectors.
+// The first entry whose range lies outside the vectors, of a table of so many rows and columns. By two loops and a label,
+// and not by `position`: document 01 names this form for the scan that stops out of both its loops.
+pub fn first_bad_entry(table: &[i64], rows: usize, columns: usize, vectors: usize) -> Option<usize>
+    requires { length table.now / 2 ≡ rows * columns }
+    ensures { result ≡ first_failing
+        (λ n. vector_range vectors (int table.now (2 * n)) (int table.now (2 * n + 1))) (length table.now / 2) }
+{
+    let mut found = None;
+    'rows: for j in 0..rows {
+        for i in 0..columns {
+            let n = j * columns + i;
+            let count = table[2 * n];
+            let start = table[2 * n + 1];
+            if !vector_range(vectors, count, start) {
+                found = Some(n);
+                break 'rows;
+            }
+        }
+    }
+    found
+}
+
+// The same of a table of any form: each entry is a row.
 pub fn first_bad_range(table: &[i64], vectors: usize) -> Option<usize>
     ensures { result ≡ first_failing
         (λ n. vector_range vectors (int table.now (2 * n)) (int table.now (2 * n + 1))) (length table.now / 2) }
 {
-    let (entries, _) = table.as_chunks::<2>();
-    entries
-        .iter()
-        .position(|entry| !vector_range(vectors, entry[0], entry[1]))
+    first_bad_entry(table, table.len() / 2, 1, vectors)
 }
 
 pub fn all_ranges(table: &[i64], vectors: usize) -> bool

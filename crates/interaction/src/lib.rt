@@ -32,7 +32,7 @@ pub fn get_interaction_at_triplet(
           work = work.old;
         })) }
 {
-    check_triplet(tables, triplet, flags, strengths, work)?;
+    check_triplet(tables, triplet, flags, strengths.len(), work.len())?;
     work_triplet(tables, triplet, flags, strengths, work);
     Ok(())
 }

@@ -75,7 +75,7 @@ pub fn get_interaction(
           work = work.old;
         })) }
 {
-    check_list(tables, list, triplets, flags, strengths, work)?;
+    check_list(tables, list, triplets, flags, strengths.len(), work.len())?;
     work_list(tables, list, triplets, flags, strengths, work);
     Ok(())
 }

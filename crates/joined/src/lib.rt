@@ -14,7 +14,7 @@ use refusals::joined_set::check_joined;
 
 // Document 01's fourth door, which lists three lent buffers, side by side here and above: a struct of three `&mut` would be made for each call, and
 // each clause name every buffer through it; of a struct of arrays behind a reference the borrow check lends no part of one field beside another.
-#[tactic(auto, using(crate::proofs::JoinedLaws::few, crate::proofs::JoinedLaws::refused, crate::proofs::JoinedLaws::accepted))]
+#[tactic(auto, using(crate::proofs::JoinedLaws::refused, crate::proofs::JoinedLaws::accepted))]
 pub fn joined_at_triplet(
     tables: &Tables<'_>,
     triplet: [i64; 3],
@@ -45,9 +45,9 @@ pub fn joined_at_triplet(
         flags,
         bath,
         integration,
-        strengths,
-        totals,
-        work,
+        strengths.len(),
+        totals.len(),
+        work.len(),
     )?;
     work_triplet(tables, triplet, flags, strengths, work);
     let sum = Sum {

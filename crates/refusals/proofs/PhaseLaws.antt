@@ -109,7 +109,7 @@ count_most Off = omega arith
 count_most Symmetrized = omega arith
 
 -- the points of triplet t of a list of m
-part_located : {m : ℕ} {triplets addresses : List ℤ} (t : ℕ) → Located (m * 3) triplets addresses → t < m → Located 3 (part 3 t triplets) addresses
+pub part_located : {m : ℕ} {triplets addresses : List ℤ} (t : ℕ) → Located (m * 3) triplets addresses → t < m → Located 3 (part 3 t triplets) addresses
 part_located {m} {triplets} {addresses} t h l =
     record {
       enough = omega (arith, part_size triplets (t * 3) 3 (omega (arith, h.enough)));

@@ -1,4 +1,4 @@
--- What tables that passed their tests make safe to read.
+-- What tables that passed their tests make safe to read; and the groups of tests of lent buffers, told by their lengths.
 use Prim.Native.Nat.{ℕ, ◌*◌, ◌≤◌}
 use native.Mathlib.Omega.{arith}
 use mathlib.Core.Bool.{true}
@@ -34,11 +34,13 @@ safe t g n points h e =
 pub phases_safe : (t : Tables) (n : ℕ) (points : List ℤ) → lowest (tests_of t) ≡ 0 → lowest (point_tests t.measures.grid points) ≡ 0 → n ≤ length points → Readable t n points
 phases_safe t n points e f h = safe t (table_facts t e) n points h (passing (point_tests t.measures.grid points) refl f).0
 
--- ---- groups by lengths: n z slots, of a set whose sizes are z
+-- ---- groups of tests of lent buffers, told by their lengths
 
-pub slots_same : (n : Sizes → ℕ) (f v w : ℕ) {k : ℕ} {z y : Sizes} → k ≡ lowest (slot_tests (n z) z f v w) → z ≡ y → k ≡ lowest (slot_tests (n y) y f v w)
-slots_same n f v w e p = rw (e, p) refl
+-- n z slots, of a set whose sizes are z
+pub slots_same : (n : Sizes → ℕ) (f : ℕ) (v w : List Float) {k i j : ℕ} {z y : Sizes} → k ≡ lowest (slot_tests (n z) z f i j) → z ≡ y → length v ≡ i → length w ≡ j
+    → k ≡ lowest (slot_tests (n y) y f (length v) (length w))
+slots_same n f v w e p q r = rw (e, p, q, r) refl
 
-pub bath_same : (F : ℕ) (h : Bath) (first second : List Float) (totals : ℕ) {k : ℕ} {z y : Sizes} → k ≡ lowest (bath_tests z.slots F h first second totals) → z ≡ y
-    → k ≡ lowest (bath_tests y.slots F h first second totals)
-bath_same F h first second totals e p = rw (e, p) refl
+pub bath_same : (F : ℕ) (h : Bath) (first second u : List Float) {k i : ℕ} {z y : Sizes} → k ≡ lowest (bath_tests z.slots F h first second i) → z ≡ y → length u ≡ i
+    → k ≡ lowest (bath_tests y.slots F h first second (length u))
+bath_same F h first second u e p q = rw (e, p, q) refl

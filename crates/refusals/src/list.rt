@@ -1,5 +1,5 @@
 // Every test of a set for the list door: the list is tested whole.
-ghost use Rattle.std.specs.Prelude.{◌≡◌};
+ghost use Rattle.std.specs.Prelude.{◌≡◌, List, Float, length};
 ghost use Rattle.phonon.specs.Answers.{number_of};
 ghost use Rattle.phonon.specs.Handed.{tables_of};
 ghost use Rattle.phonon.specs.Refusal.{list_refusal};
@@ -17,22 +17,25 @@ pub fn check_list(
     list: usize,
     triplets: &[i64],
     flags: &[u8],
-    strengths: &[f64],
-    work: &[f64],
+    strengths: usize,
+    work: usize,
 ) -> Result<(), Refusal>
-    ensures { number_of result ≡ list_refusal (record {
-      tables = tables_of tables.now;
-      list = list;
-      triplets = triplets.now;
-      flags = flags.now;
-      strengths = strengths.now;
-      work = work.now;
-    }) }
+    ensures { (v w : List Float) → length v ≡ strengths → length w ≡ work
+        → number_of result ≡ list_refusal (record {
+          tables = tables_of tables.now;
+          list = list;
+          triplets = triplets.now;
+          flags = flags.now;
+          strengths = v;
+          work = w;
+        }) }
 {
-    let z = check_measures(tables.measures, tables.crystal.forces.form)?;
+    let Ok(z) = check_measures(tables.measures, tables.crystal.forces.form) else {
+        return Err(Refusal::Measure);
+    };
     require(list_ok(list), Refusal::Measure)?;
     let count = check_count(list, triplets);
-    let slots = check_slots(list * z.slots, z, flags, strengths.len(), work.len());
+    let slots = check_slots(list * z.slots, z, flags, strengths, work);
     let points = check_points(tables.measures.grid, triplets);
     lower_of(
         count,

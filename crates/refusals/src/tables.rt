@@ -51,7 +51,7 @@ fn indices_ok(m: Measures, crystal: &Crystal<'_>, bands: &[i64]) -> bool
     checks::all_within(0, last_atom, crystal.forces.p2s)
         & checks::all_within(0, last_atom, crystal.forces.s2p)
         & checks::all_within(0, last_band, bands)
-        & checks::all_ranges(crystal.multiplicity, m.vectors)
+        & checks::first_bad_entry(crystal.multiplicity, supercell, atoms, m.vectors).is_none()
 }
 
 // 4: the cutoff and the tables.

@@ -1,6 +1,6 @@
 // Every test of a set for the one-triplet door. The phases are worked out only from tables and points that are
-// good.
-ghost use Rattle.std.specs.Prelude.{◌≡◌};
+// good. The lent buffers are told by their lengths: nothing in them is read, and the promise holds of any buffers of these lengths.
+ghost use Rattle.std.specs.Prelude.{◌≡◌, List, Float, length};
 ghost use Rattle.phonon.specs.Answers.{number_of};
 ghost use Rattle.phonon.specs.Handed.{tables_of};
 ghost use Rattle.phonon.specs.Refusal.{triplet_refusal};
@@ -17,19 +17,23 @@ pub fn check_triplet(
     tables: &Tables<'_>,
     triplet: [i64; 3],
     flags: &[u8],
-    strengths: &[f64],
-    work: &[f64],
+    strengths: usize,
+    work: usize,
 ) -> Result<(), Refusal>
-    ensures { number_of result ≡ triplet_refusal (record {
-      tables = tables_of tables.now;
-      triplet = triplet;
-      flags = flags.now;
-      strengths = strengths.now;
-      work = work.now;
-    }) }
+    ensures { (v w : List Float) → length v ≡ strengths → length w ≡ work
+        → number_of result ≡ triplet_refusal (record {
+          tables = tables_of tables.now;
+          triplet = triplet;
+          flags = flags.now;
+          strengths = v;
+          work = w;
+        }) }
 {
-    let z = check_measures(tables.measures, tables.crystal.forces.form)?;
-    let slots = check_slots(z.slots, z, flags, strengths.len(), work.len());
+    // By `let .. else` and not by `?`: document 01 names this form for a stage that begins only from the good answer before it.
+    let Ok(z) = check_measures(tables.measures, tables.crystal.forces.form) else {
+        return Err(Refusal::Measure);
+    };
+    let slots = check_slots(z.slots, z, flags, strengths, work);
     let points = check_points(tables.measures.grid, &triplet);
     lower_of(check_tables(tables), lower_of(slots, points))?;
     require(phases_ok(tables, &triplet), Refusal::Phase)

@@ -1,11 +1,12 @@
 -- The set that is handed in is accepted where the worker and the sum are called.
+use native.Mathlib.Omega.{arith}
 use mathlib.Core.Path.{◌≡◌}
 use borrow.Author.Rules.{rules}
 use Rattle.phonon.specs.Handed.{tables_of}
 use Rattle.phonon.specs.Sets.{JoinedSet, triplet_of}
 use Rattle.phonon.specs.Refusal.{joined_refusal}
 use Rattle.real_to_normal.proofs.AcceptedLaws.{frequency_fits}
-use Rattle.joined.proofs.JoinedLaws.{lengths, share, sized}
+use Rattle.joined.proofs.JoinedLaws.{lengths, share, few, sized}
 use Rattle.joined.proofs.joined_at_triplet.Goals as goal
 use Rattle.joined.proofs.joined_at_triplet.Goals.{Start}
 
@@ -27,6 +28,9 @@ handed c =
 
 pub work_triplet-requires : goal.work_triplet-requires
 work_triplet-requires c = share (handed (goal.at.work_triplet-requires c).Start) (search rules)
+
+pub overflow_mul-sum : goal.overflow_mul-sum
+overflow_mul-sum c = omega (arith, few (handed (goal.at.overflow_mul-sum c).Start) (search rules))
 
 pub write_totals-requires : goal.write_totals-requires
 write_totals-requires c =

@@ -14,26 +14,24 @@ use Rattle.checks.proofs.AnswerLaws.{turned, handed_on, of_one}
 use Rattle.checks.proofs.MeasureLaws.{within_told, beyond_told}
 use Rattle.refusals.proofs.TableLaws.{phases_safe, slots_same}
 use Rattle.refusals.proofs.list.check_list.Goals as goal
-use Rattle.refusals.proofs.list.check_list.Goals.{In_ok-z}
+use Rattle.refusals.proofs.list.check_list.Goals.{In-Ok}
 
-good_measures : (c : In_ok-z) → (measures_ok c.args.tables.now.measures ≡ true) × (c.in_ok-z.z ≡ sizes_of c.args.tables.now.measures c.args.tables.now.crystal.forces.form)
-good_measures c = within_told _ _ (sym c.check_measures.ensures ∙ c.in_ok-z.was)
+good_measures : (c : In-Ok) → (measures_ok c.args.tables.now.measures ≡ true) × (c.in-Ok.z ≡ sizes_of c.args.tables.now.measures c.args.tables.now.crystal.forces.form)
+good_measures c = within_told _ _ (sym c.in-Ok.ensures)
 
-pub returns-in_err-z : goal.returns-in_err-z
+pub returns-in_default : goal.returns-in_default
 unfolding list_refusal
-returns-in_err-z c =
-    let b = beyond_told _ _ (sym c.check_measures.ensures ∙ c.in_err-z.was) in
-    rw (handed_on _ c.from_residual.ensures.1, b.1) (sym (one_fails (count_tests c.args.list c.args.triplets.now) _ refl b.0))
+returns-in_default c = λ v w p q. let b = beyond_told _ _ (sym c.check_measures.ensures ∙ c.in_default.is) in sym (one_fails (count_tests c.args.list c.args.triplets.now) _ refl b.0)
 
 pub returns-in_err-require : goal.returns-in_err-require
 unfolding list_refusal
-returns-in_err-require c = turned _ _ _ refl c.list_ok.ensures c.require.ensures c.in_err-require.was c.from_residual-in_err-require.ensures.1
+returns-in_err-require c = λ v w p q. turned _ _ _ refl c.list_ok.ensures c.require.ensures c.in_err-require.was c.from_residual.ensures.1
 
 pub returns-in_err-lower_of : goal.returns-in_err-lower_of
 unfolding list_refusal
-returns-in_err-lower_of c =
-    let z = (good_measures (goal.at.returns-in_err-lower_of c).In_ok-z).1 in
-    let g = join3 _ _ _ c.check_tables.ensures (slots_same (λ y. c.args.list * y.slots) _ _ _ c.check_slots-slots.ensures z) c.check_points-points.ensures c.lower_of.ensures c.lower_of-2.ensures in
+returns-in_err-lower_of c = λ v w p q.
+    let z = (good_measures (goal.at.returns-in_err-lower_of c).In-Ok).1 in
+    let g = join3 _ _ _ c.check_tables.ensures (slots_same (λ y. c.args.list * y.slots) _ v w c.check_slots-slots.ensures z p q) c.check_points-points.ensures c.lower_of.ensures c.lower_of-2.ensures in
     let e = join _ _ c.check_count-count.ensures g c.lower_of-3.ensures in
     rw (handed_on _ c.from_residual-in_err-lower_of.ensures.1)
     (sym (before_last 9 _ _ refl (rw c.in_err-lower_of.was at e) (number_positive _)))
@@ -48,8 +46,8 @@ list_phases_ok-requires c =
 
 pub returns : goal.returns
 unfolding list_refusal
-returns c =
-    let z = (good_measures (goal.at.returns c).In_ok-z).1 in
-    let g = join3 _ _ _ c.check_tables.ensures (slots_same (λ y. c.args.list * y.slots) _ _ _ c.check_slots-slots.ensures z) c.check_points-points.ensures c.lower_of.ensures c.lower_of-2.ensures in
+returns c = λ v w p q.
+    let z = (good_measures (goal.at.returns c).In-Ok).1 in
+    let g = join3 _ _ _ c.check_tables.ensures (slots_same (λ y. c.args.list * y.slots) _ v w c.check_slots-slots.ensures z p q) c.check_points-points.ensures c.lower_of.ensures c.lower_of-2.ensures in
     let e = join _ _ c.check_count-count.ensures g c.lower_of-3.ensures in
     of_one _ c.list_phases_ok.ensures c.require-2.ensures ∙ sym (at_last _ _ (rw c.in_ok-lower_of.was at e))

@@ -6,11 +6,12 @@ use mir.ValLaws.{to_z_pos}
 use mir.Syntax.{w64}
 use Rattle.phonon.specs.Tests.{all_true, all_true_after}
 use Rattle.phonon.proofs.Accepted.{measured_facts}
-use Rattle.phonon.specs.Refusal.{indices_ok}
+use Rattle.phonon.specs.Refusal.{indices_ok, ranges_ok}
+use Rattle.checks.proofs.Laws.{none_failing}
 use Rattle.refusals.proofs.tables.indices_ok.Goals as goal
 
 pub returns : goal.returns
-unfolding indices_ok all_true all_true_after
+unfolding indices_ok ranges_ok all_true all_true_after
 returns c =
     let h = measured_facts _ c.requires.0 in
     let atom = to_z_pos w64 (c.args.m.supercell - 1) (omega arith) in
@@ -20,6 +21,6 @@ returns c =
       rw atom at c.all_within.ensures,
       rw atom at c.all_within-2.ensures,
       rw band at c.all_within-3.ensures,
-      rw entries at c.all_ranges.ensures,
+      none_failing _ _ (rw entries at c.first_bad_entry.ensures) c.is_none.ensures,
     )
     refl
