@@ -8,6 +8,7 @@ use lib.Ieee.{Float, nan, inf, fin, binary64, up, down, fits, size, nearest, uni
 use lib.Ieee.Fits.{round_is}
 use lib.Ieee.Nearest.{closest, closest_same, div_same}
 use lib.Ieee.Root.{whole_part}
+use denote.Floats.{passes}
 use Rattle.phonon.specs.Root.{root}
 use Rattle.common.specs.Rounded.{Rounded}
 use Rattle.common.proofs.Patterns.{size_is}
@@ -178,3 +179,7 @@ machine_root (fin true (suc m) e) f = refl
 machine_root (fin false (suc m) e) f =
     let k = facts (fin false (suc m) e) f (lt→ltb _ _ (zero-lt-suc m)) in
     rounded k.M _ k.j k.t k.low k.high (finer m e f ∙ ap (λ (z : ℕ). z * 2 ^ 2394) k.value) k.near ∙ sym k.is
+
+-- as a machine's root is told of an f64
+pub root_told : (x : Float) → fits binary64 x ≡ true → sqrt binary64 x ≡ root x
+root_told x f = machine_root x (passes _ f)

@@ -90,6 +90,7 @@ pub fn is_zero(a: Complex) -> bool
 }
 
 // The square root of x: the f64 nearest the exact root. That of a zero is that zero, of a negative number a NaN.
+#[tactic(auto, using(crate::proofs::MachineRoot::root_told))]
 pub fn root(x: f64) -> f64
     ensures { result ≡ Root.root x }
 {
