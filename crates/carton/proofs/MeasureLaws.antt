@@ -127,7 +127,7 @@ pub filled_is : (n d : ℕ) → d ≡ div_ceil n 63 → filled n ≡ 63 * d
 filled_is n d e = omega arith
 
 -- more words than there are
-too_few : (n end : ℕ) → n < end → eqb n (filled end) ≡ false
+pub too_few : (n end : ℕ) → n < end → eqb n (filled end) ≡ false
 too_few n end h = ne_eqb _ _ (λ (e : n ≡ filled end). omega arith)
 
 pub not_small : (ws : List ℕ) (m : Measures) (form : Form) → length ws ≤ most_words → small_ok m ≡ false → words_match ws m (places_of m form) ≡ false

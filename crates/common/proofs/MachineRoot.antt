@@ -1,14 +1,16 @@
 -- The library's root, which rounds twice the root with half a place more where it goes on, is the definition's. Assumes nothing.
-use Rattle.std.proofs.Common.{◌≡◌, ℕ, zero, suc, ◌+◌, ◌-◌, ◌*◌, ◌/◌, ◌%◌, ◌^◌, ◌<◌, ◌≤◌, Bool, true, false, cond, T, eqb, ℤ, pos, negsuc, sym, refl, ap, ◌∙◌, subst, le_trans, le_of_eq, lt_of_lt_of_le, lt_of_le_of_lt, lt_irrefl, lt_of_not-le, mul-le-mul_right, zero-lt-suc, mul_assoc, mul_comm, mul-le-mul, lt_of_mul-lt-mul_right, mul-lt-mul_of_pos_right, le_of_mul-le-mul_right, pow-suc, add-mul, mul-add, arith, eqb→eq, pow_pos, pow-add}
+use Rattle.std.proofs.Common.{◌≡◌, ℕ, zero, suc, ◌+◌, ◌-◌, ◌*◌, ◌/◌, ◌%◌, ◌^◌, ◌<◌, ◌≤◌, Bool, true, false, cond, T, eqb, is_nan, ℤ, pos, negsuc, sym, refl, ap, ◌∙◌, subst, le_trans, le_of_eq, lt_of_lt_of_le, lt_of_le_of_lt, lt_irrefl, lt_of_not-le, mul-le-mul_right, zero-lt-suc, mul_assoc, mul_comm, mul-le-mul, lt_of_mul-lt-mul_right, mul-lt-mul_of_pos_right, le_of_mul-le-mul_right, pow-suc, add-mul, mul-add, arith, eqb→eq, pow_pos, pow-add}
 use Prim.Native.Nat.{compare, Ordering}
 use native.Mathlib.Nat.{mul-mul-mul_comm, mul_left_comm, mul-pos, le-div_iff_mul-le, div-lt_iff_lt-mul, div-add-mod'}
 use lib.Dec.{lt→ltb}
 use lib.Pow.{split, shr-shr}
-use lib.Ieee.{Float, nan, inf, fin, binary64, up, down, fits, size, nearest, units, round, sqrt, root_below, root_twice}
+use lib.Ieee.{Float, nan, inf, fin, binary64, of_bits, up, down, fits, size, nearest, units, round, sqrt, root_below, root_twice}
 use lib.Ieee.Fits.{round_is}
 use lib.Ieee.Nearest.{closest, closest_same, div_same}
 use lib.Ieee.Root.{whole_part}
+use denote.Floats.{passes}
 use Rattle.phonon.specs.Root.{root}
+use Rattle.phonon.proofs.Order.{is_nan_lem}
 use Rattle.common.specs.Rounded.{Rounded}
 use Rattle.common.proofs.Patterns.{size_is}
 use Rattle.common.proofs.RootLaws.{sq_suc, sq_dbl, IsRoot, Cmp, cmp, by_compare, rounded_unique}
@@ -178,3 +180,12 @@ machine_root (fin true (suc m) e) f = refl
 machine_root (fin false (suc m) e) f =
     let k = facts (fin false (suc m) e) f (lt→ltb _ _ (zero-lt-suc m)) in
     rounded k.M _ k.j k.t k.low k.high (finer m e f ∙ ap (λ (z : ℕ). z * 2 ^ 2394) k.value) k.near ∙ sym k.is
+
+-- as a machine's root is told of an f64
+pub root_told : (x : Float) → fits binary64 x ≡ true → sqrt binary64 x ≡ root x
+root_told x f = machine_root x (passes _ f)
+
+-- every NaN is one
+pub nan_told : (x y : Float) → fits binary64 x ≡ true → y ≡ sqrt binary64 x → is_nan y ≡ true → of_bits binary64 9221120237041090560 ≡ root x
+unfolding of_bits
+nan_told x y f e n = is_nan_lem y n ∙ e ∙ root_told x f

@@ -7,6 +7,7 @@ use lib.Ieee.Digits.{size-lt, size-le}
 use lib.Ieee.Exact.{HasValue}
 use lib.Ieee.Fits.{down_pos}
 use lib.Ieee.Bits.{of_bits-to_bits}
+use denote.Floats.{passes}
 
 pub reaches : (n j : ℕ) → 2 ^ j ≤ n → j < size n
 reaches n j h = lt_of_not-le (λ (f : size n ≤ j). lt_irrefl n (lt_of_lt_of_le (size-lt n) (le_trans (pow_mono {i = size n} {j = j} f) h)))
@@ -63,3 +64,7 @@ pub rescaled : (v : Float) (s : Bool) (a c k : ℕ) → HasValue v s a c → Has
 rescaled nan s a c k h = h
 rescaled (inf t) s a c k h = h
 rescaled (fin t m e) s a c k h = (h.0, sym (mul_assoc (m * up e) c k) ∙ ap (λ (x : ℕ). x * k) h.1 ∙ mul_right_comm a (down e) k)
+
+-- ---- a pattern read back is the number
+pub bits_told : (x : Float) → fits binary64 x ≡ true → of_bits binary64 (to_bits binary64 x) ≡ x
+bits_told x f = of_bits-to_bits binary64 x (passes _ f)

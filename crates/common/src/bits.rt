@@ -14,6 +14,7 @@ pub fn f64_of_bits(w: u64) -> f64
 }
 
 // The bits of a number.
+#[tactic(auto, using(crate::proofs::Patterns::bits_told))]
 pub fn bits_of(x: f64) -> u64
     ensures { (result ≡ to_bits binary64 x) × (x ≡ bits result) }
 {

@@ -89,9 +89,12 @@ pub fn is_zero(a: Complex) -> bool
     a.re == 0.0 && a.im == 0.0
 }
 
-// The square root of x: the f64 nearest the exact root. That of a zero is that zero, of a negative number a NaN.
+// The square root of x: the f64 nearest the exact root. That of a zero is that zero, of a negative number a NaN: the NaN of the other stand-ins,
+// where the machine's root gives one with a sign, or x itself.
+#[tactic(auto, using(crate::proofs::MachineRoot::root_told, crate::proofs::MachineRoot::nan_told))]
 pub fn root(x: f64) -> f64
     ensures { result ≡ Root.root x }
 {
-    x.sqrt()
+    let y = x.sqrt();
+    if y.is_nan() { f64::NAN } else { y }
 }

@@ -90,7 +90,7 @@ module _ (s : WeightsSet) (e : weights_refusal s ≡ 0) where
       by (no h) = let z : int s.triplet l ≡ pos 0 = get_or-eq_default s.triplet (pos 0) (omega arith) in rw z (omega (arith, facts.measured.grid))
 
   -- its frequencies lie within the slice
-  reached : (l : ℕ) → (index (int s.triplet l) + 1) * bands_in s ≤ length s.frequencies
+  pub reached : (l : ℕ) → (index (int s.triplet l) + 1) * bands_in s ≤ length s.frequencies
   reached l = rw (add-one, facts.frequencies) (mul-le-mul_right (bands_in s) (point_below l))
 
   -- with the point g as it was read
