@@ -3,6 +3,7 @@
 
 ghost use Rattle.std.specs.Prelude.{◌≤◌, length};
 
+use answer::{MOST_INPUT, Text, put_answer};
 use std::array;
 use std::io::{Read, Write};
 
@@ -24,9 +25,10 @@ fn read_full<R: Read>(from: &mut R, buf: &mut [u8]) -> usize
 
 // A key that could not be written whole, as to a full disk, is told of on standard error.
 fn main(rt: HostRuntime) {
-    let mut input = array::repeat::<u8, { answer::MOST_INPUT }>(0);
+    let mut input = array::repeat::<u8, MOST_INPUT>(0);
     let n = read_full(&mut rt.stdin(), &mut input);
-    let text = answer::answer(&input[..n]);
+    let mut text = Text::new();
+    put_answer(&input[..n], &mut text);
     if rt.stdout().write_all(text.as_slice()).is_err() {
         let _ = rt
             .stderr()
