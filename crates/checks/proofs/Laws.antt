@@ -7,7 +7,7 @@ use native.Mathlib.Nat.{sub-zero, add-zero, suc-mul}
 use native.Mathlib.Decide.{dec_lt}
 use native.Mathlib.Numerals.{add-one}
 use native.Mathlib.Omega.{arith}
-use lib.Ieee.{Float, nan, inf, fin, is_nan, add}
+use lib.Ieee.{Float, nan, inf, fin, is_nan, add, lt}
 use lib.ListN.{length, get_or, set, drop}
 use Rattle.std.specs.Prelude.{◌/◌, ◌%◌, Option, None, Some, MatchOption, is_some, option_map}
 use Rattle.std.specs.Float.{float_is_finite, is_sign_negative}
@@ -28,6 +28,21 @@ and_left a b e = (and_both a b e).0
 
 pub and_right : (a b : Bool) → (a && b) ≡ true → b ≡ true
 and_right a b e = (and_both a b e).1
+
+-- ---- between the two infinities lie the finite numbers, and no NaN
+
+pub above_bottom : (x : Float) → lt (inf true) x ≡ true → lt x (inf false) ≡ finite x
+unfolding lt finite
+above_bottom nan e = refl
+above_bottom (inf true) e = sym e
+above_bottom (inf false) e = refl
+above_bottom (fin s m d) e = refl
+
+pub at_bottom : (x : Float) → lt (inf true) x ≡ false → false ≡ finite x
+unfolding lt finite
+at_bottom nan e = refl
+at_bottom (inf s) e = refl
+at_bottom (fin s m d) e = sym e
 
 -- ---- what a test that the code branches on told
 

